@@ -1,10 +1,10 @@
 //! Which fields of heads go on by the rules of a configuration, both ways, as a table of whole exchanges.
-use crate::links::{CLIENT, half, joined, judged, meter, sink, wire};
+use crate::links::{CLIENT, exchanged, judged, plain_side};
 use crate::reply_fields::REPLIES;
 use crate::request_fields::REQUESTS;
 use sq_addr::read_addr;
 use sq_base::{Addr, BodyPlan, Request, Text, WantOfMemory};
-use sq_forward::{Outgoing, exchange};
+use sq_forward::Outgoing;
 use sq_head::request_plan;
 use sq_request::{head_end, read_request, retarget};
 use std::alloc::Global;
@@ -87,13 +87,6 @@ fn check<R: Wait + Abort>(rt: &R, alloc: Global, shows: &str, row: &Row) {
             .expect(rt, "memory")
             .expect(rt, "a target")
     };
-    let client_wire = wire(rt, alloc);
-    let origin_wire = wire(rt, alloc);
-    let from = half(rt, alloc, input.as_bytes(), 7, &[]);
-    let mut client = joined(from, sink(rt, alloc, 11, &[]), &client_wire);
-    let from = half(rt, alloc, reply.as_bytes(), 7, &[]);
-    let mut origin = joined(from, sink(rt, alloc, 11, &[]), &origin_wire);
-    let mut meter = meter(None);
     let outgoing = Outgoing {
         request: &sent,
         addr: row.from,
@@ -101,15 +94,15 @@ fn check<R: Wait + Abort>(rt: &R, alloc: Global, shows: &str, row: &Row) {
         config: setup.config(),
         facts: &facts,
     };
-    exchange(rt, alloc, &mut client, &mut origin, &mut meter, &outgoing);
-    let written = origin_wire.text(alloc).expect(rt, "memory");
+    let client = plain_side(input.as_bytes());
+    let origin = plain_side(reply.as_bytes());
+    let was = exchanged(rt, alloc, &client, &origin, None, &outgoing);
     assert!(rt;
-        written.as_bytes().starts_with(row.sent.as_bytes()),
+        was.to_origin.as_bytes().starts_with(row.sent.as_bytes()),
         "to the origin: {shows}"
     );
-    let written = client_wire.text(alloc).expect(rt, "memory");
     assert!(rt;
-        written.as_bytes().starts_with(row.got.as_bytes()),
+        was.to_client.as_bytes().starts_with(row.got.as_bytes()),
         "to the client: {shows}"
     );
 }

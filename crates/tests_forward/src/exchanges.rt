@@ -1,7 +1,7 @@
 //! Exchanges over links that do not fail.
-use crate::links::{CLIENT, half, joined, judged, meter, request, rest, sink, wire};
+use crate::links::{CLIENT, exchanged, judged, plain_side, request};
 use Exchanged::{BadBody, Closed, Cut, Kept, NoReply, OriginCut, Starved};
-use sq_forward::{Exchanged, Outgoing, exchange};
+use sq_forward::{Exchanged, Outgoing};
 use sq_head::request_plan;
 use std::alloc::Global;
 use std::process::Abort;
@@ -355,13 +355,6 @@ fn check<R: Wait + Abort>(rt: &R, alloc: Global, row: &Row) {
     let request = request(rt, alloc, row.method, row.target, row.old, row.fields);
     let plan = request_plan(&request).expect(rt, "a plan");
     let (setup, facts) = judged(rt, alloc, b"", CLIENT, &request);
-    let client_wire = wire(rt, alloc);
-    let origin_wire = wire(rt, alloc);
-    let from = half(rt, alloc, row.input.as_bytes(), 7, &[]);
-    let mut client = joined(from, sink(rt, alloc, 11, &[]), &client_wire);
-    let from = half(rt, alloc, row.reply.as_bytes(), 7, &[]);
-    let mut origin = joined(from, sink(rt, alloc, 11, &[]), &origin_wire);
-    let mut meter = meter(row.grants);
     let outgoing = Outgoing {
         request: &request,
         addr: CLIENT,
@@ -369,24 +362,25 @@ fn check<R: Wait + Abort>(rt: &R, alloc: Global, row: &Row) {
         config: setup.config(),
         facts: &facts,
     };
-    let end = exchange(rt, alloc, &mut client, &mut origin, &mut meter, &outgoing);
-    assert!(rt; end == row.end, "{}", row.shows);
-    let written = client_wire.text(alloc).expect(rt, "memory");
+    let client = plain_side(row.input.as_bytes());
+    let origin = plain_side(row.reply.as_bytes());
+    let was = exchanged(rt, alloc, &client, &origin, row.grants, &outgoing);
+    assert!(rt; was.end == row.end, "{}", row.shows);
     assert!(rt;
-        written.as_bytes() == row.to_client.as_bytes(),
+        was.to_client.as_bytes() == row.to_client.as_bytes(),
         "{}",
         row.shows
     );
-    let written = origin_wire.text(alloc).expect(rt, "memory");
     assert!(rt;
-        written.as_bytes() == row.to_origin.as_bytes(),
+        was.to_origin.as_bytes() == row.to_origin.as_bytes(),
         "{}",
         row.shows
     );
-    if end == Kept {
-        let left = rest(rt, alloc, &client.from);
-        assert!(rt; left.as_bytes() == row.left.as_bytes(), "{}", row.shows);
-    }
+    assert!(rt;
+        was.end != Kept || was.left.as_bytes() == row.left.as_bytes(),
+        "{}",
+        row.shows
+    );
 }
 
 #[test]

@@ -1,8 +1,8 @@
 //! One exchange, of which each call of each half of both links fails in turn.
-use crate::links::{CLIENT, half, joined, judged, meter, request, sink, wire};
+use crate::links::{CLIENT, Side, exchanged, judged, request};
 use Exchanged::{ClientFault, Kept, NoReply, OriginFault};
 use Place::{ClientRead, ClientWrite, OriginRead, OriginWrite};
-use sq_forward::{Exchanged, Outgoing, exchange};
+use sq_forward::{Exchanged, Outgoing};
 use sq_head::request_plan;
 use std::alloc::Global;
 use std::process::Abort;
@@ -87,27 +87,6 @@ fn check<R: Wait + Abort>(rt: &R, alloc: Global, row: &Row) {
     let request = request(rt, alloc, "POST", "http://h.example/p", false, &fields);
     let plan = request_plan(&request).expect(rt, "a plan");
     let (setup, facts) = judged(rt, alloc, b"", CLIENT, &request);
-    let from = half(
-        rt,
-        alloc,
-        INPUT.as_bytes(),
-        4,
-        fails(*place, ClientRead, call),
-    );
-    let client_wire = wire(rt, alloc);
-    let to = sink(rt, alloc, 50, fails(*place, ClientWrite, call));
-    let mut client = joined(from, to, &client_wire);
-    let from = half(
-        rt,
-        alloc,
-        REPLY.as_bytes(),
-        30,
-        fails(*place, OriginRead, call),
-    );
-    let origin_wire = wire(rt, alloc);
-    let to = sink(rt, alloc, 50, fails(*place, OriginWrite, call));
-    let mut origin = joined(from, to, &origin_wire);
-    let mut meter = meter(None);
     let outgoing = Outgoing {
         request: &request,
         addr: CLIENT,
@@ -115,13 +94,25 @@ fn check<R: Wait + Abort>(rt: &R, alloc: Global, row: &Row) {
         config: setup.config(),
         facts: &facts,
     };
-    let end = exchange(rt, alloc, &mut client, &mut origin, &mut meter, &outgoing);
-    assert!(rt; end == *wanted, "{place:?} {call}");
-    let written = client_wire.text(alloc).expect(rt, "memory");
-    let as_far = is_front(written.as_bytes(), *client_count, TO_CLIENT);
+    let client = Side {
+        input: INPUT.as_bytes(),
+        read: 4,
+        write: 50,
+        bad_reads: fails(*place, ClientRead, call),
+        bad_writes: fails(*place, ClientWrite, call),
+    };
+    let origin = Side {
+        input: REPLY.as_bytes(),
+        read: 30,
+        write: 50,
+        bad_reads: fails(*place, OriginRead, call),
+        bad_writes: fails(*place, OriginWrite, call),
+    };
+    let was = exchanged(rt, alloc, &client, &origin, None, &outgoing);
+    assert!(rt; was.end == *wanted, "{place:?} {call}");
+    let as_far = is_front(was.to_client.as_bytes(), *client_count, TO_CLIENT);
     assert!(rt; as_far, "{place:?} {call}");
-    let written = origin_wire.text(alloc).expect(rt, "memory");
-    let as_far = is_front(written.as_bytes(), *origin_count, TO_ORIGIN);
+    let as_far = is_front(was.to_origin.as_bytes(), *origin_count, TO_ORIGIN);
     assert!(rt; as_far, "{place:?} {call}");
 }
 

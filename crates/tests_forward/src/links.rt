@@ -4,13 +4,14 @@ ghost use Rattle.std.specs.Prelude.{◌≡◌, length};
 use sq_base::{Addr, Copying, Field, Fields, Request, Text};
 use sq_conf::read_config;
 use sq_facts::read_facts;
-use sq_forward::{Ahead, Duplex, Half, MemMeter};
+use sq_forward::{Ahead, Duplex, Exchanged, Half, MemMeter, Outgoing, exchange};
 use sq_outside_mem::{MemOut, MemSink, MemSource, Wire};
 use sq_request::make_request;
 use sq_rules::{Facts, Sight};
 use sq_urlmatch::Setup;
 use std::alloc::Global;
 use std::process::Abort;
+use std::sync::Wait;
 
 /// The client's address, 10.1.2.3.
 pub const CLIENT: Addr = Addr {
@@ -111,4 +112,64 @@ pub fn rest(rt: &impl Abort, alloc: Global, half: &Half<MemSource>) -> Text {
     let mut text = Text::from_slice(alloc, half.ahead.as_bytes()).expect(rt, "memory");
     text.append(half.source.left()).expect(rt, "memory");
     text
+}
+
+/// One side of an exchange: the bytes that come, of which a read gives at most `read`, and of which a write takes at most
+/// `write`; the listed reads and writes fail.
+#[derive(Clone, Copy)]
+pub struct Side<'a> {
+    pub input: &'a [u8],
+    pub read: usize,
+    pub write: usize,
+    pub bad_reads: &'a [u64],
+    pub bad_writes: &'a [u64],
+}
+
+/// A side of which reads give at most 7 bytes and writes take at most 11, and none fails.
+pub fn plain_side(input: &[u8]) -> Side<'_> {
+    Side {
+        input,
+        read: 7,
+        write: 11,
+        bad_reads: &[],
+        bad_writes: &[],
+    }
+}
+
+/// How an exchange ended, what went to the client and to the origin, and what is to come of the client.
+#[derive(Drop)]
+pub struct Outcome {
+    pub end: Exchanged,
+    pub to_client: Text,
+    pub to_origin: Text,
+    pub left: Text,
+}
+
+/// Makes an exchange between two sides.
+pub fn exchanged<R: Wait + Abort>(
+    rt: &R,
+    alloc: Global,
+    client: &Side,
+    origin: &Side,
+    grants: Option<u64>,
+    outgoing: &Outgoing,
+) -> Outcome
+    requires { length outgoing.now.facts.now ≡ length outgoing.now.config.now.acls }
+{
+    let client_wire = wire(rt, alloc);
+    let origin_wire = wire(rt, alloc);
+    let from = half(rt, alloc, client.input, client.read, client.bad_reads);
+    let to = sink(rt, alloc, client.write, client.bad_writes);
+    let mut client = joined(from, to, &client_wire);
+    let from = half(rt, alloc, origin.input, origin.read, origin.bad_reads);
+    let to = sink(rt, alloc, origin.write, origin.bad_writes);
+    let mut origin = joined(from, to, &origin_wire);
+    let mut meter = meter(grants);
+    let end = exchange(rt, alloc, &mut client, &mut origin, &mut meter, outgoing);
+    Outcome {
+        end,
+        to_client: client_wire.text(alloc).expect(rt, "memory"),
+        to_origin: origin_wire.text(alloc).expect(rt, "memory"),
+        left: rest(rt, alloc, &client.from),
+    }
 }
