@@ -2,20 +2,21 @@
 """Functions and relations that take too much at once, in the library crates: tests/sizes.py
 
 It lists each function with more than eight parameters (`self` is one) or four type parameters, and each relation of the specs with more
-than eight arguments, or with three in a row that are called by letters as `a b c`; what is implied is none. What belongs together goes as
-one value with names: a struct, a record, a trait with associated types. It first counts two texts of its own. The status is 0 where
-nothing takes too much."""
+than eight arguments, or with three in a row that are called by single letters, as `a b c`; what is implied is none. What belongs together
+goes as one value with names: a struct, a record, a trait with associated types. It first counts two texts of its own. The status is 0
+where nothing takes too much."""
 
 import itertools
 import os
 import re
+import string
 import sys
 from collections.abc import Iterator
 from pathlib import Path
 
 PARAMETERS, TYPES, ARGUMENTS = 8, 4, 8
-# So many arguments in a row that are called by one of these letters say nothing of what each is.
-LETTERS, ROW = "abcdgh", 3
+# So many arguments in a row that are called by single letters say nothing of what each is.
+LETTERS, ROW = string.ascii_lowercase, 3
 CRATES = Path(__file__).resolve().parent.parent / "crates"
 # The brackets of a function's head, and those of a definition's, where `<` is a relation.
 HEADS = ("([{<", ")]}>")
@@ -122,7 +123,7 @@ def relations(text: str) -> Iterator[tuple[str, list[str]]]:
 
 
 def letters(names: list[str]) -> str:
-    """The first row of arguments that are called by letters, where one is too long."""
+    """The first row of arguments that are called by single letters, where one is too long."""
     for at in range(len(names) - ROW + 1):
         row = list(itertools.takewhile(lambda name: len(name) == 1 and name in LETTERS, names[at:]))
         if len(row) >= ROW:
@@ -148,8 +149,8 @@ def main() -> int:
         sys.exit(f"sizes: it counts {counted}, and not {COUNTED}")
     if (related := list(relations(SPECS))) != RELATED:
         sys.exit(f"sizes: it counts {related}, and not {RELATED}")
-    if (row := letters(["x", "a", "", "d", "g", "h", "e"])) != "d g h":
-        sys.exit(f"sizes: it finds the letters {row}, and not d g h")
+    if (row := letters(["x", "a", "", "d", "g", "h", "e"])) != "d g h e":
+        sys.exit(f"sizes: it finds the letters {row}, and not d g h e")
     found = list(dict.fromkeys(too_much()))
     for line in found:
         print(line)

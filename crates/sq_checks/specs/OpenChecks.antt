@@ -142,7 +142,7 @@ finished o c = record c { stage = stage.Done o; steps = step_more c.steps }
 
 -- a check after the end of a question
 abbrev pub ended_by : ℕ → What → ℕ → CheckParts → CheckParts
-ended_by q w now c = record c { stage = ended_stage q w now c.stage }
+ended_by question what now c = record c { stage = ended_stage question what now c.stage }
 
 -- what a step says, as far as a check changes by it
 abbrev pub says_of : StepEffect → StepSays
@@ -161,7 +161,7 @@ change_at n f checks = map (change_entry n f) checks
 
 -- the checks after the end of a question
 abbrev pub all_ended : ℕ → What → ℕ → List (ℕ × CheckParts) → List (ℕ × CheckParts)
-all_ended q w now checks = map (λ e. (e.0, ended_by q w now e.1)) checks
+all_ended question what now checks = map (λ e. (e.0, ended_by question what now e.1)) checks
 
 -- the checks without check n
 abbrev pub without_entry : ℕ → List (ℕ × CheckParts) → List (ℕ × CheckParts)
@@ -177,15 +177,17 @@ wait_at n checks = option_and_then (λ c. question_in c.stage) (value_at checks 
 
 -- the answer is the one that the end of a question gives, where the stage waits for that one
 abbrev pub IsFit : ℕ → Answer → What → ℕ → CheckStage → Type 0
-IsFit q a w now stage.Ready = Unit {0}
-IsFit q a w now (stage.Came b) = Unit {0}
-IsFit q a w now (stage.Waits n) = (n.question == q) ≡ true → a ≡ given w now n
-IsFit q a w now (stage.Done o) = Unit {0}
+IsFit question answer what now stage.Ready = Unit {0}
+IsFit question answer what now (stage.Came b) = Unit {0}
+IsFit question answer what now (stage.Waits n) = (n.question == question) ≡ true
+    → answer ≡ given what now n
+IsFit question answer what now (stage.Done o) = Unit {0}
 
 -- the answer is the one that each check is given that waits for the question
 abbrev pub AllFit : ℕ → Answer → What → ℕ → List (ℕ × CheckParts) → Type 0
-AllFit q a w now [] = Unit {0}
-AllFit q a w now (e ∷ es) = IsFit q a w now e.1.stage × AllFit q a w now es
+AllFit question answer what now [] = Unit {0}
+AllFit question answer what now (e ∷ es) = IsFit question answer what now e.1.stage
+    × AllFit question answer what now es
 
 -- what the one or the other gives
 abbrev pub both_ends : Ends → Ends → Ends
@@ -193,8 +195,8 @@ both_ends first second q = option_or (first q) (second q)
 
 -- each of these is the one
 abbrev pub AllAre : What → List What → Type 0
-AllAre w [] = Unit {0}
-AllAre w (x ∷ xs) = (x ≡ w) × AllAre w xs
+AllAre what [] = Unit {0}
+AllAre what (x ∷ xs) = (x ≡ what) × AllAre what xs
 
 -- what a step says that asked for this key of this class: it took an answer of these, or was told
 -- to wait

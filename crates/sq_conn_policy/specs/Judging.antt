@@ -49,48 +49,50 @@ use Rattle.sq_pools.specs.declared.held_seats.HeldSeat.TheVariants as held
 
 -- how a connection opens: as the machine answers the event
 abbrev pub OpensBy : Event → Opened → HubState → State → Type 0
-OpensBy e opened.In v new = IsNext v.machine (machine_now v) e told.Fine new
-OpensBy e opened.Full v new = ((n : ℕ)
-    × IsRefused v.machine (machine_now v) e (refusal.TooManyConns n)) × IsSame new v.machine
-OpensBy e (opened.Refused why) v new = IsRefused v.machine (machine_now v) e why
-    × IsSame new v.machine
-OpensBy e opened.JournalFault v new = IsSame new v.machine
-OpensBy e opened.WantOfMemory v new = IsSame new v.machine
+OpensBy e opened.In old new = IsNext old.machine (machine_now old) e told.Fine new
+OpensBy e opened.Full old new = ((n : ℕ)
+    × IsRefused old.machine (machine_now old) e (refusal.TooManyConns n)) × IsSame new old.machine
+OpensBy e (opened.Refused why) old new = IsRefused old.machine (machine_now old) e why
+    × IsSame new old.machine
+OpensBy e opened.JournalFault old new = IsSame new old.machine
+OpensBy e opened.WantOfMemory old new = IsSame new old.machine
 
-pub record Opens (conn : ℕ) (a : Address) (port : ℕ) (o : Opened) (v w : HubState) : Type 0 where
-  pub opens : OpensBy (event.Open conn a port) o v w.machine
-  pub rewriter : w.rewriter ≡ v.rewriter
-  pub pools : w.pools ≡ v.pools
+pub record Opens (conn : ℕ) (addr : Address) (port : ℕ) (result : Opened)
+    (old new : HubState) : Type 0 where
+  pub opens : OpensBy (event.Open conn addr port) result old new.machine
+  pub rewriter : new.rewriter ≡ old.rewriter
+  pub pools : new.pools ≡ old.pools
 
 -- the connection closed, or did not, as the machine answers
 abbrev pub ClosesBy : Event → Result (Unit {0}) CloseFault → HubState → State → Type 0
-ClosesBy e (Ok u) v new = IsNext v.machine (machine_now v) e told.Fine new
-ClosesBy e (Err (close.Refused why)) v new = IsRefused v.machine (machine_now v) e why
-    × IsSame new v.machine
-ClosesBy e (Err close.JournalFault) v new = IsSame new v.machine
-ClosesBy e (Err close.WantOfMemory) v new = IsSame new v.machine
+ClosesBy e (Ok u) old new = IsNext old.machine (machine_now old) e told.Fine new
+ClosesBy e (Err (close.Refused why)) old new = IsRefused old.machine (machine_now old) e why
+    × IsSame new old.machine
+ClosesBy e (Err close.JournalFault) old new = IsSame new old.machine
+ClosesBy e (Err close.WantOfMemory) old new = IsSame new old.machine
 
-pub record Closes (conn : ℕ) (result : Result (Unit {0}) CloseFault) (v w : HubState) : Type 0 where
-  pub closes : ClosesBy (event.Close conn) result v w.machine
-  pub rewriter : w.rewriter ≡ v.rewriter
-  pub pools : w.pools ≡ v.pools
+pub record Closes (conn : ℕ) (result : Result (Unit {0}) CloseFault)
+    (old new : HubState) : Type 0 where
+  pub closes : ClosesBy (event.Close conn) result old new.machine
+  pub rewriter : new.rewriter ≡ old.rewriter
+  pub pools : new.pools ≡ old.pools
 
 -- while a check goes on come its steps, and events that no connection makes
 abbrev pub is_step_of : ℕ → Event → Bool
-is_step_of n (event.Step m) = m == n
-is_step_of n e = false
+is_step_of check (event.Step m) = m == check
+is_step_of check e = false
 
 abbrev pub goes_on : ℕ → Noted → Bool
-goes_on n e = is_step_of n e.event || is_outside e
+goes_on check e = is_step_of check e.event || is_outside e
 
 -- from one state to another a check went on
-pub record GoesOn (n : ℕ) (v w : HubState) : Type 0 where
-  pub adds : (configs : List Configuration) (h : History) → StandsAt configs h v.machine
-      → (more : History) × (list_all (goes_on n) more ≡ true)
-      × StandsAt configs (more ++ h) w.machine
-  pub kept : AreKept v.begun w.begun
-  pub works : Works v.rewriter w.rewriter
-  pub pools : w.pools ≡ v.pools
+pub record GoesOn (check : ℕ) (old new : HubState) : Type 0 where
+  pub adds : (configs : List Configuration) (h : History) → StandsAt configs h old.machine
+      → (more : History) × (list_all (goes_on check) more ≡ true)
+      × StandsAt configs (more ++ h) new.machine
+  pub kept : AreKept old.begun new.begun
+  pub works : Works old.rewriter new.rewriter
+  pub pools : new.pools ≡ old.pools
 
 -- the machine refuses the event so behind this history
 pub record RefusesLast (configs : List Configuration) (h : History) (e : Event)
@@ -104,80 +106,82 @@ IsForLastNumber why = (n : ℕ) × (why ≡ refusal.Spent n)
 
 -- a step or the taking of this check
 abbrev pub IsOfGoing : ℕ → Event → Type 0
-IsOfGoing n e = (e ≡ event.Step n) ⊎ (e ≡ event.Take n)
+IsOfGoing check e = (e ≡ event.Step check) ⊎ (e ≡ event.Take check)
 
 -- the entries of a check that ended with this record, which was taken last
-pub record EndsSo (n : ℕ) (j : Judged) (entries : History) : Type 0 where
+pub record EndsSo (check : ℕ) (j : Judged) (entries : History) : Type 0 where
   pub now : ℕ
   pub steps : History
-  pub cut : entries ≡ entry_at now (event.Take n) (told.Judged j.epoch j.outcome) ∷ steps
-  pub on : list_all (goes_on n) steps ≡ true
+  pub cut : entries ≡ entry_at now (event.Take check) (told.Judged j.epoch j.outcome) ∷ steps
+  pub on : list_all (goes_on check) steps ≡ true
 
 -- the entries that a check added up to its record, or up to what kept it from one; a refusal is the
 -- machine's, and of a check that was open it says that a number would be the last
 abbrev pub FitsResult : List Configuration → History → ℕ → Result Judged HubFault → History → Type 0
-FitsResult configs h n (Ok j) more = EndsSo n j more
-FitsResult configs h n (Err (Refused why)) more =
-    (list_all (goes_on n) more ≡ true)
+FitsResult configs h check (Ok j) more = EndsSo check j more
+FitsResult configs h check (Err (Refused why)) more =
+    (list_all (goes_on check) more ≡ true)
     × (¬ (why ≡ refusal.WantOfMemory)
-    → (e : Event) × IsOfGoing n e × RefusesLast configs (more ++ h) e why)
-    × (¬ (why ≡ refusal.WantOfMemory) → check_open h n ≡ true → IsForLastNumber why)
-FitsResult configs h n (Err JournalFault) more = list_all (goes_on n) more ≡ true
-FitsResult configs h n (Err WantOfMemory) more = list_all (goes_on n) more ≡ true
+    → (e : Event) × IsOfGoing check e × RefusesLast configs (more ++ h) e why)
+    × (¬ (why ≡ refusal.WantOfMemory) → check_open h check ≡ true → IsForLastNumber why)
+FitsResult configs h check (Err JournalFault) more = list_all (goes_on check) more ≡ true
+FitsResult configs h check (Err WantOfMemory) more = list_all (goes_on check) more ≡ true
 
-pub record FinishesAfter (configs : List Configuration) (h : History) (n : ℕ)
+pub record FinishesAfter (configs : List Configuration) (h : History) (check : ℕ)
     (result : Result Judged HubFault) (new : State) : Type 0 where
   pub more : History
-  pub fits : FitsResult configs h n result more
+  pub fits : FitsResult configs h check result more
   pub stands : StandsAt configs (more ++ h) new
 
 -- a check is taken to its end
-pub record Finishes (n : ℕ) (result : Result Judged HubFault) (v w : HubState) : Type 0 where
-  pub after : (configs : List Configuration) (h : History) → StandsAt configs h v.machine
-      → FinishesAfter configs h n result w.machine
-  pub of_check : IsOfCheck n result v
-  pub works : Works v.rewriter w.rewriter
-  pub pools : w.pools ≡ v.pools
+pub record Finishes (check : ℕ) (result : Result Judged HubFault)
+    (old new : HubState) : Type 0 where
+  pub after : (configs : List Configuration) (h : History) → StandsAt configs h old.machine
+      → FinishesAfter configs h check result new.machine
+  pub of_check : IsOfCheck check result old
+  pub works : Works old.rewriter new.rewriter
+  pub pools : new.pools ≡ old.pools
 
 -- the entries of a question that ended with this record: it was asked about this very request, and
 -- the record was taken last
-pub record IsDecision (conn : ℕ) (r : HttpRequest) (j : Judged) (entries : History) : Type 0 where
+pub record IsDecision (conn : ℕ) (request : HttpRequest) (j : Judged)
+    (entries : History) : Type 0 where
   pub now : ℕ
   pub rest : History
-  pub cut : entries ≡ rest ++ entry_at now (asks_for conn r) (told.Check j.check) ∷ []
+  pub cut : entries ≡ rest ++ entry_at now (asks_for conn request) (told.Check j.check) ∷ []
   pub ends : EndsSo j.check j rest
-  pub request_is : j.sight.request ≡ r
+  pub request_is : j.sight.request ≡ request
 
 -- the entries of a question without a record: at most it was asked, and its check went on
-pub record IsAttempt (conn : ℕ) (r : HttpRequest) (entries : History) : Type 0 where
+pub record IsAttempt (conn : ℕ) (request : HttpRequest) (entries : History) : Type 0 where
   pub now : ℕ
   pub check : ℕ
   pub asked : History
   pub rest : History
   pub cut : entries ≡ rest ++ asked
-  pub asks : (asked ≡ []) ⊎ (asked ≡ entry_at now (asks_for conn r) (told.Check check) ∷ [])
+  pub asks : (asked ≡ []) ⊎ (asked ≡ entry_at now (asks_for conn request) (told.Check check) ∷ [])
   pub on : list_all (goes_on check) rest ≡ true
 
 -- an event of a question
 abbrev pub IsOfQuestion : ℕ → HttpRequest → Event → Type 0
-IsOfQuestion conn r e = (e ≡ asks_for conn r) ⊎ ((n : ℕ) × IsOfGoing n e)
+IsOfQuestion conn request e = (e ≡ asks_for conn request) ⊎ ((n : ℕ) × IsOfGoing n e)
 
 -- the entries that a question added; no other request is judged, and a refusal is the machine's; on
 -- a connection that was open without a check it says that a number would be the last
 abbrev pub FitsDecided : List Configuration → History → ℕ → HttpRequest → Decided → History → Type 0
-FitsDecided configs h conn r (decided.Record j) more = IsDecision conn r j more
-FitsDecided configs h conn r (decided.Mismatch other) more = ⊥
-FitsDecided configs h conn r (decided.Refused why) more =
-    IsAttempt conn r more × ((e : Event) × IsOfQuestion conn r e
+FitsDecided configs h conn request (decided.Record j) more = IsDecision conn request j more
+FitsDecided configs h conn request (decided.Mismatch other) more = ⊥
+FitsDecided configs h conn request (decided.Refused why) more =
+    IsAttempt conn request more × ((e : Event) × IsOfQuestion conn request e
     × RefusesLast configs (more ++ h) e why)
     × (is_some (peer_at h conn) ≡ true → open_check h conn ≡ None → IsForLastNumber why)
-FitsDecided configs h conn r decided.JournalFault more = IsAttempt conn r more
-FitsDecided configs h conn r decided.WantOfMemory more = IsAttempt conn r more
+FitsDecided configs h conn request decided.JournalFault more = IsAttempt conn request more
+FitsDecided configs h conn request decided.WantOfMemory more = IsAttempt conn request more
 
-pub record JudgesAfter (configs : List Configuration) (h : History) (conn : ℕ) (r : HttpRequest)
-    (d : Decided) (new : State) : Type 0 where
+pub record JudgesAfter (configs : List Configuration) (h : History) (conn : ℕ)
+    (request : HttpRequest) (result : Decided) (new : State) : Type 0 where
   pub more : History
-  pub fits : FitsDecided configs h conn r d more
+  pub fits : FitsDecided configs h conn request result more
   pub stands : StandsAt configs (more ++ h) new
 
 -- no other request was judged
@@ -189,12 +193,13 @@ IsOwn decided.JournalFault = ⊤
 IsOwn decided.WantOfMemory = ⊤
 
 -- a question about a request
-pub record Judges (conn : ℕ) (r : HttpRequest) (d : Decided) (v w : HubState) : Type 0 where
-  pub after : (configs : List Configuration) (h : History) → StandsAt configs h v.machine
-      → JudgesAfter configs h conn r d w.machine
-  pub own : IsOwn d
-  pub works : Works v.rewriter w.rewriter
-  pub pools : w.pools ≡ v.pools
+pub record Judges (conn : ℕ) (request : HttpRequest) (result : Decided)
+    (old new : HubState) : Type 0 where
+  pub after : (configs : List Configuration) (h : History) → StandsAt configs h old.machine
+      → JudgesAfter configs h conn request result new.machine
+  pub own : IsOwn result
+  pub works : Works old.rewriter new.rewriter
+  pub pools : new.pools ≡ old.pools
 
 -- what a front answers for what was taken of its question
 abbrev pub rewritten_of : Rewriting → Rewritten
@@ -222,14 +227,14 @@ TakesLast q (Err f) (Some s) new = (more : Calls) × (list_all is_of_processes m
     × (take_refusal q (after_calls more s) ≡ Some f)
 
 -- the same of what a hub tells; meanwhile only events came that no connection makes
-pub record TakesAtLast (q : ℕ) (result : Result Rewriting RewriteFault) (v w : HubState) : Type 0
-  where
-    pub adds : (configs : List Configuration) (h : History) → StandsAt configs h v.machine
-        → (more : History) × (list_all is_outside more ≡ true)
-        × StandsAt configs (more ++ h) w.machine
-    pub kept : AreKept v.begun w.begun
-    pub takes : TakesLast q result v.rewriter w.rewriter
-    pub pools : w.pools ≡ v.pools
+pub record TakesAtLast (q : ℕ) (result : Result Rewriting RewriteFault)
+    (old new : HubState) : Type 0 where
+  pub adds : (configs : List Configuration) (h : History) → StandsAt configs h old.machine
+      → (more : History) × (list_all is_outside more ≡ true)
+      × StandsAt configs (more ++ h) new.machine
+  pub kept : AreKept old.begun new.begun
+  pub takes : TakesLast q result old.rewriter new.rewriter
+  pub pools : new.pools ≡ old.pools
 
 -- the calls of a question that was put for this record and taken: this was taken of it, after the
 -- rewriter's processes did their part
@@ -257,13 +262,13 @@ RewritesBy j said (Some s) new = (calls : Calls) × ComesTo j said s calls × Ru
 
 -- a question to the rewriter about the request of a record: meanwhile only events came that no
 -- connection makes
-pub record RewritesFor (j : Judged) (said : Rewritten) (v w : HubState) : Type 0 where
-  pub adds : (configs : List Configuration) (h : History) → StandsAt configs h v.machine
+pub record RewritesFor (j : Judged) (said : Rewritten) (old new : HubState) : Type 0 where
+  pub adds : (configs : List Configuration) (h : History) → StandsAt configs h old.machine
       → (more : History) × (list_all is_outside more ≡ true)
-      × StandsAt configs (more ++ h) w.machine
-  pub kept : AreKept v.begun w.begun
-  pub rewrites : RewritesBy j said v.rewriter w.rewriter
-  pub pools : w.pools ≡ v.pools
+      × StandsAt configs (more ++ h) new.machine
+  pub kept : AreKept old.begun new.begun
+  pub rewrites : RewritesBy j said old.rewriter new.rewriter
+  pub pools : new.pools ≡ old.pools
 
 -- why a front has no seat that the pools did not give
 abbrev pub unseated_of : ChooseFault → SitFault
@@ -279,33 +284,33 @@ seat_of make (Err fault) = Err (unseated_of fault)
 -- pool, in pools of the one kind or of the other
 abbrev pub SeatsAt : Judged → SeatPlace → Result (Option HeldSeat) SitFault → HubState → HubState
     → Type 0
-SeatsAt j Nowhere said v w = (said ≡ Ok None) × (w ≡ v)
-SeatsAt j (ByAddress pool) said v w = (chosen : Result ℕ ChooseFault)
+SeatsAt j Nowhere said old new = (said ≡ Ok None) × (new ≡ old)
+SeatsAt j (ByAddress pool) said old new = (chosen : Result ℕ ChooseFault)
     × (said ≡ seat_of held.ByAddress chosen)
-    × Chooses j.epoch j.config pool j.sight.addr chosen v w
-SeatsAt j (ByTag pool tag) said v w = (chosen : Result ℕ ChooseFault)
+    × Chooses j.epoch j.config pool j.sight.addr chosen old new
+SeatsAt j (ByTag pool tag) said old new = (chosen : Result ℕ ChooseFault)
     × (said ≡ seat_of held.ByTag chosen)
-    × ChoosesTag j.epoch j.config pool tag chosen v w
+    × ChoosesTag j.epoch j.config pool tag chosen old new
 
 -- where memory for its tag is wanting there is none, and nothing changes
 abbrev pub Seats : Judged → Result (Option HeldSeat) SitFault → HubState → HubState → Type 0
-Seats j said v w = SeatsAt j (seat_place j.config j.sight j.answers) said v w
-    ⊎ ((needs_tag j ≡ true) × (said ≡ Err sit.WantOfMemory) × (w ≡ v))
+Seats j said old new = SeatsAt j (seat_place j.config j.sight j.answers) said old new
+    ⊎ ((needs_tag j ≡ true) × (said ≡ Err sit.WantOfMemory) × (new ≡ old))
 
 -- a call for a seat: the front holds the seat of the record, or, where that is refused, what it held
 abbrev pub Sits : Judged → Result (Unit {0}) SitFault → Option HeldSeat → Option HeldSeat → HubState
     → HubState → Type 0
-Sits j (Ok u) before now v w = Seats j (Ok now) v w
-Sits j (Err fault) before now v w = Seats j (Err fault) v w × (now ≡ before)
+Sits j (Ok u) before now old new = Seats j (Ok now) old new
+Sits j (Err fault) before now old new = Seats j (Err fault) old new × (now ≡ before)
 
 -- a grant on a seat; without one nothing changes
 abbrev pub GrantsOn : Option HeldSeat → ℕ → ℕ → HubState → HubState → Type 0
-GrantsOn None wanted given v w = w ≡ v
-GrantsOn (Some (held.ByAddress seat)) wanted given v w = Grants seat wanted given v w
-GrantsOn (Some (held.ByTag seat)) wanted given v w = GrantsTag seat wanted given v w
+GrantsOn None wanted given old new = new ≡ old
+GrantsOn (Some (held.ByAddress seat)) wanted given old new = Grants seat wanted given old new
+GrantsOn (Some (held.ByTag seat)) wanted given old new = GrantsTag seat wanted given old new
 
 -- a seat is given back; without one nothing changes
 abbrev pub Rises : Option HeldSeat → HubState → HubState → Type 0
-Rises None v w = w ≡ v
-Rises (Some (held.ByAddress seat)) v w = Leaves seat v w
-Rises (Some (held.ByTag seat)) v w = LeavesTag seat v w
+Rises None old new = new ≡ old
+Rises (Some (held.ByAddress seat)) old new = Leaves seat old new
+Rises (Some (held.ByTag seat)) old new = LeavesTag seat old new

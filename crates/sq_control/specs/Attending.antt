@@ -43,24 +43,26 @@ IsAccepted texts before now name = (config : Configuration)
 
 -- what became of one reconfiguration by the file of this name; the desk answered only where the
 -- text was accepted
-pub record IsReread (texts : Texts) (name : List ℕ) (v : Seen) (r : Reread)
-    (w : Seen) : Type 0 where
-  pub adds : Adds texts v.files.opened w.files.opened name v.desk.told w.desk.told r
-  pub made : CountsMade v.desk.made w.desk.made r
-  pub asked : is_answer r ≡ true → IsAccepted texts v.files.opened w.files.opened name
-  pub at : (e : ConfError) → r ≡ reread.At e → IsRefused texts v.files.opened w.files.opened name e
-  pub missing : r ≡ reread.Missing → IsNotTold texts name
-  pub read : r ≡ reread.Read → Rose v.files.faults w.files.faults
-  pub quiet : (r ≡ reread.Read → ⊥) → w.files.faults ≡ v.files.faults
-  pub later : v.files.faults ≤ w.files.faults
-  pub refused : is_refusal r ≡ true → Rose v.desk.refused w.desk.refused
-  pub refused_later : v.desk.refused ≤ w.desk.refused
+pub record IsReread (texts : Texts) (name : List ℕ) (before : Seen) (result : Reread)
+    (now : Seen) : Type 0 where
+  pub adds : Adds texts before.files.opened now.files.opened name before.desk.told now.desk.told
+      result
+  pub made : CountsMade before.desk.made now.desk.made result
+  pub asked : is_answer result ≡ true → IsAccepted texts before.files.opened now.files.opened name
+  pub at : (e : ConfError) → result ≡ reread.At e
+      → IsRefused texts before.files.opened now.files.opened name e
+  pub missing : result ≡ reread.Missing → IsNotTold texts name
+  pub read : result ≡ reread.Read → Rose before.files.faults now.files.faults
+  pub quiet : (result ≡ reread.Read → ⊥) → now.files.faults ≡ before.files.faults
+  pub later : before.files.faults ≤ now.files.faults
+  pub refused : is_refusal result ≡ true → Rose before.desk.refused now.desk.refused
+  pub refused_later : before.desk.refused ≤ now.desk.refused
 
 -- what became of some, one after the other; the newest stands first
 abbrev pub AreReread : Texts → List ℕ → Seen → List Reread → Seen → Type 0
-AreReread texts name v [] w = w ≡ v
-AreReread texts name v (r ∷ older) w = (u : Seen) × AreReread texts name v older u
-    × IsReread texts name u r w
+AreReread texts name before [] now = now ≡ before
+AreReread texts name before (result ∷ older) now = (u : Seen) × AreReread texts name before older u
+    × IsReread texts name u result now
 
 -- one more where it was made
 abbrev pub counts_made : Reread → ℕ → ℕ

@@ -29,59 +29,64 @@ programs_of v epoch class = Some
     (option_map (λ c. c.words) (class_in (state_of v.engine) epoch class))
 
 -- a call of this event at a moment, whose answer is told so
-pub record Tells {A : Type 0} (first : Beginning) (moment : ℕ) (tell : A → Told) (e : Event)
-    (v w : DeskView) (r : Result A DeskFault) : Type 0 where
-  pub told : Notes (Some first) moment tell (λ x. x ≡ e) v.notes.history w.notes.history r
-  pub refuses : Refuses (Some first) moment e v.notes.history r
-  pub refused : CountsRefusal (shown v) (shown w) r
-  pub made : Some w.notes.made ≡ Some v.notes.made
+pub record Tells {A : Type 0} (first : Beginning) (moment : ℕ) (tell : A → Told) (called : Event)
+    (old new : DeskView) (result : Result A DeskFault) : Type 0 where
+  pub told : Notes (Some first) moment tell (λ x. x ≡ called) old.notes.history
+      new.notes.history result
+  pub refuses : Refuses (Some first) moment called old.notes.history result
+  pub refused : CountsRefusal (shown old) (shown new) result
+  pub made : Some new.notes.made ≡ Some old.notes.made
 
 -- the same where the answer is as R says
-pub record TellsAs {A : Type 0} (first : Beginning) (moment : ℕ) (R : A → Told → Type 0) (e : Event)
-    (v w : DeskView) (r : Result A DeskFault) : Type 0 where
-  pub told : NotesAs (Some first) moment R (λ x. x ≡ e) v.notes.history w.notes.history r
-  pub refuses : Refuses (Some first) moment e v.notes.history r
-  pub refused : CountsRefusal (shown v) (shown w) r
-  pub made : Some w.notes.made ≡ Some v.notes.made
+pub record TellsAs {A : Type 0} (first : Beginning) (moment : ℕ) (R : A → Told → Type 0)
+    (called : Event) (old new : DeskView) (result : Result A DeskFault) : Type 0 where
+  pub told : NotesAs (Some first) moment R (λ x. x ≡ called) old.notes.history
+      new.notes.history result
+  pub refuses : Refuses (Some first) moment called old.notes.history result
+  pub refused : CountsRefusal (shown old) (shown new) result
+  pub made : Some new.notes.made ≡ Some old.notes.made
 
 -- this event, with the name that the class at a place has
 abbrev pub IsOfClass : Beginning → Option History → (List ℕ → Event) → ClassId → Event → Type 0
-IsOfClass first old e p x = (name : List ℕ) × IsNameOf (Some first) old p.epoch p.class name
-    × (x ≡ e name)
+IsOfClass first old event_of place called = (name : List ℕ)
+    × IsNameOf (Some first) old place.epoch place.class name × (called ≡ event_of name)
 
 -- the same of an event that names a class
 pub record TellsClass {A : Type 0} (first : Beginning) (moment : ℕ) (tell : A → Told)
-    (e : List ℕ → Event) (p : ClassId) (v w : DeskView) (r : Result A DeskFault) : Type 0 where
-  pub told : Notes (Some first) moment tell (IsOfClass first v.notes.history e p) v.notes.history
-      w.notes.history r
-  pub refuses : RefusesAt (Some first) moment e p.epoch p.class v.notes.history r
-  pub refused : CountsRefusal (shown v) (shown w) r
-  pub made : Some w.notes.made ≡ Some v.notes.made
+    (event_of : List ℕ → Event) (place : ClassId) (old new : DeskView)
+    (result : Result A DeskFault) : Type 0 where
+  pub told : Notes (Some first) moment tell (IsOfClass first old.notes.history event_of place)
+      old.notes.history new.notes.history result
+  pub refuses : RefusesAt (Some first) moment event_of place.epoch place.class old.notes.history
+      result
+  pub refused : CountsRefusal (shown old) (shown new) result
+  pub made : Some new.notes.made ≡ Some old.notes.made
 
 -- a call for a line of a process
-pub record TellsLine (first : Beginning) (moment k : ℕ) (line : List ℕ) (v w : DeskView)
-    (r : Result Got DeskFault) : Type 0 where
-  pub told : Notes (Some first) moment got_told (λ x. x ≡ event.Line k line) v.notes.history
-      w.notes.history r
-  pub refuses : Refuses (Some first) moment (event.Line k line) v.notes.history r
-  pub refused : CountsLine (shown v) (shown w) r
-  pub made : Some w.notes.made ≡ Some v.notes.made
+pub record TellsLine (first : Beginning) (moment proc : ℕ) (line : List ℕ) (old new : DeskView)
+    (result : Result Got DeskFault) : Type 0 where
+  pub told : Notes (Some first) moment got_told (λ x. x ≡ event.Line proc line) old.notes.history
+      new.notes.history result
+  pub refuses : Refuses (Some first) moment (event.Line proc line) old.notes.history result
+  pub refused : CountsLine (shown old) (shown new) result
+  pub made : Some new.notes.made ≡ Some old.notes.made
 
 -- a call for the next act
-pub record TellsAct (first : Beginning) (moment : ℕ) (v w : DeskView)
-    (r : Result (Option Act) DeskFault) : Type 0 where
-  pub told : MayAct (Some first) moment v.notes.history w.notes.history r
-  pub refuses : Refuses (Some first) moment event.Act v.notes.history r
-  pub refused : CountsRefusal (shown v) (shown w) r
-  pub made : Some w.notes.made ≡ Some v.notes.made
-  pub programs : programs_of w ≡ programs_of v
+pub record TellsAct (first : Beginning) (moment : ℕ) (old new : DeskView)
+    (result : Result (Option Act) DeskFault) : Type 0 where
+  pub told : MayAct (Some first) moment old.notes.history new.notes.history result
+  pub refuses : Refuses (Some first) moment event.Act old.notes.history result
+  pub refused : CountsRefusal (shown old) (shown new) result
+  pub made : Some new.notes.made ≡ Some old.notes.made
+  pub programs : programs_of new ≡ programs_of old
 
 -- a call for another configuration
-pub record TellsReread (first : Beginning) (config : Configuration) (moment : ℕ) (v w : DeskView)
-    (r : Result ℕ DeskFault) : Type 0 where
-  pub told : Notes (Some first) moment told.Epoch (IsReread config) v.notes.history w.notes.history
-      r
-  pub refuses : Refuses (Some first) moment (event.Reconfigure config.source) v.notes.history r
-  pub refused : CountsRefusal (shown v) (shown w) r
-  pub made : CountsReconfigured (Some v.notes.made) (Some w.notes.made) r
-  pub counting : OnOk r (IsSome (Some v.notes.made))
+pub record TellsReread (first : Beginning) (config : Configuration) (moment : ℕ)
+    (old new : DeskView) (result : Result ℕ DeskFault) : Type 0 where
+  pub told : Notes (Some first) moment told.Epoch (IsReread config) old.notes.history
+      new.notes.history result
+  pub refuses : Refuses (Some first) moment (event.Reconfigure config.source) old.notes.history
+      result
+  pub refused : CountsRefusal (shown old) (shown new) result
+  pub made : CountsReconfigured (Some old.notes.made) (Some new.notes.made) result
+  pub counting : OnOk result (IsSome (Some old.notes.made))

@@ -28,33 +28,35 @@ got_told (got.Reply q reply) = told.Reply q reply.word
 got_told got.Bad = told.Bad
 got_told got.Stray = told.Stray
 
--- a line of process k comes to this on the channels of the process
+-- a line of a process comes to this on the channels of the process
 abbrev pub IsRead : State → ℕ → List ℕ → Got → Type 0
-IsRead s k line g = (c : Channels) → channels_in s k ≡ Some c → got_in c line ≡ g
+IsRead state proc line came = (c : Channels) → channels_in state proc ≡ Some c
+    → got_in c line ≡ came
 
--- process k ended by a line, by this cause
-pub record IsEndedBy (s : State) (k : ℕ) (by : Cause) (now : ℕ) (t : State) : Type 0 where
+-- the process ended by a line, by this cause
+pub record IsEndedBy (old : State) (proc : ℕ) (by : Cause) (now : ℕ) (new : State) : Type 0 where
   pub place : ClassId
-  pub home_is : s.home k ≡ Some place
-  pub same : IsSame t (after_end_at place k by true now s)
+  pub home_is : old.home proc ≡ Some place
+  pub same : IsSame new (after_end_at place proc by true now old)
 
--- process k replied to question q
-pub record IsReplied (s : State) (k q : ℕ) (reply : Reply) (now : ℕ) (t : State) : Type 0 where
+-- the process replied to the question
+pub record IsReplied (old : State) (proc question : ℕ) (reply : Reply) (now : ℕ)
+    (new : State) : Type 0 where
   pub place : ClassId
   pub class : Class
   pub row : ClassRow
   pub key : List ℕ
-  pub home_is : s.home k ≡ Some place
-  pub class_is : class_in s place.epoch place.class ≡ Some class
-  pub row_is : s.row place.epoch place.class ≡ Some row
-  pub key_is : key_of q row.lookups ≡ Some key
-  pub same : IsSame t (after_reply_at place class k q key (what_of reply) now s)
+  pub home_is : old.home proc ≡ Some place
+  pub class_is : class_in old place.epoch place.class ≡ Some class
+  pub row_is : old.row place.epoch place.class ≡ Some row
+  pub key_is : key_of question row.lookups ≡ Some key
+  pub same : IsSame new (after_reply_at place class proc question key (what_of reply) now old)
 
--- what a line of process k leaves that comes to this
+-- what a line of the process leaves that comes to this
 abbrev pub IsLineDone : State → ℕ → Got → ℕ → State → Type 0
-IsLineDone s k (got.Reply q reply) now t = IsReplied s k q reply now t
-IsLineDone s k got.Bad now t = IsEndedBy s k cause.BadReply now t
-IsLineDone s k got.Stray now t = IsEndedBy s k cause.Stray now t
+IsLineDone old proc (got.Reply question reply) now new = IsReplied old proc question reply now new
+IsLineDone old proc got.Bad now new = IsEndedBy old proc cause.BadReply now new
+IsLineDone old proc got.Stray now new = IsEndedBy old proc cause.Stray now new
 
 -- a check's copy of what its question ended with
 abbrev pub share_of : What → ℕ → Share
@@ -62,6 +64,6 @@ share_of w n = record { check = n; what = w }
 
 -- the checks after each was given its copy, the last one first
 abbrev pub all_given : ℕ → ℕ → List Share → List (ℕ × CheckParts) → List (ℕ × CheckParts)
-all_given q now [] checks = checks
-all_given q now (x ∷ xs) checks = change_at x.check (ended_by q x.what now)
-    (all_given q now xs checks)
+all_given question now [] checks = checks
+all_given question now (x ∷ xs) checks = change_at x.check (ended_by question x.what now)
+    (all_given question now xs checks)

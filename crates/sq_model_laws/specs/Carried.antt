@@ -24,10 +24,12 @@ pub record IsUnused (m : Past) (e : ℕ) : Type 0 where
 
 -- no two channels of a process of a class with so many channels hold one question
 abbrev pub HoldsOnce : ℕ → History → ℕ → ℕ → Type 0
-HoldsOnce concurrency h k q =
+HoldsOnce concurrency history proc question =
     (n j : ℕ) → n < max 1 concurrency → j < max 1 concurrency
-    → holder (nat_lt 0 concurrency) h k (channel_name (nat_lt 0 concurrency) n) ≡ Some q
-    → holder (nat_lt 0 concurrency) h k (channel_name (nat_lt 0 concurrency) j) ≡ Some q → n ≡ j
+    → holder (nat_lt 0 concurrency) history proc (channel_name (nat_lt 0 concurrency) n)
+    ≡ Some question
+    → holder (nat_lt 0 concurrency) history proc (channel_name (nat_lt 0 concurrency) j)
+    ≡ Some question → n ≡ j
 
 -- no two classes of an epoch have one name
 abbrev pub NamesOnce : List Configuration → Type 0

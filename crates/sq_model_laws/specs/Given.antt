@@ -41,124 +41,131 @@ pub record Gift : Type 0 where
 
 -- the entry is a line by which a process answers a question that was sent to it, and that was put
 -- for this epoch and class with this key
-pub record Gives (configs : List Configuration) (m : Past) (x : Marked) (e c : ℕ)
-    (g : Gift) : Type 0 where
+pub record Gives (configs : List Configuration) (past : Past) (newest : Marked) (epoch place : ℕ)
+    (gift : Gift) : Type 0 where
   pub proc : ℕ
   pub bytes : List ℕ
   pub word : Word
-  pub event_is : x.entry.event ≡ Line proc bytes
-  pub answer_is : x.entry.answer ≡ told.Reply g.question word
-  pub date_is : x.entry.moment ≡ g.date
-  pub says : said_by configs m proc bytes ≡ Some g.what
-  pub sent : sent_to m g.question ≡ Some proc
-  pub put : put_is e c g.key (put_of m g.question) ≡ true
+  pub event_is : newest.entry.event ≡ Line proc bytes
+  pub answer_is : newest.entry.answer ≡ told.Reply gift.question word
+  pub date_is : newest.entry.moment ≡ gift.date
+  pub says : said_by configs past proc bytes ≡ Some gift.what
+  pub sent : sent_to past gift.question ≡ Some proc
+  pub put : put_is epoch place gift.key (put_of past gift.question) ≡ true
 
--- the answer was given for the class at place c of epoch e: by a line there, or for the class that
--- is alike in the epoch before, before epoch e began
+-- the answer was given for the class at this place of this epoch: by a line there, or for the class
+-- that is alike in the epoch before, before this epoch began
 abbrev pub Given : List Configuration → Past → ℕ → ℕ → Gift → Type 0
-Given configs [] e c g = ⊥
-Given configs (x ∷ m) e c g =
-    Gives configs m x e c g
-    ⊎ (((d : ℕ) × (begins_epoch x.entry.event ≡ true) × (e ≡ suc (current (entries m)))
-    × (alike_place configs (current (entries m)) (class_at configs e c) ≡ Some d)
-    × Given configs m (current (entries m)) d g)
-    ⊎ Given configs m e c g)
+Given configs [] epoch place gift = ⊥
+Given configs (newest ∷ past) epoch place gift =
+    Gives configs past newest epoch place gift
+    ⊎ (((d : ℕ) × (begins_epoch newest.entry.event ≡ true) × (epoch ≡ suc (current (entries past)))
+    × (alike_place configs (current (entries past)) (class_at configs epoch place) ≡ Some d)
+    × Given configs past (current (entries past)) d gift)
+    ⊎ Given configs past epoch place gift)
 
 -- a cached reply with its key
 abbrev pub gift_of : List ℕ × CachedReply → Gift
 gift_of k = record { key = k.0; what = k.1.what; question = k.1.question; date = k.1.date }
 
--- the entry is a step of check n that takes a verdict of the class and key that the check needs: it
--- is kept and fresh then, and was given
-pub record TakesFresh (configs : List Configuration) (m : Past) (x : Marked) (n : ℕ)
-    (a : Answer) : Type 0 where
-  pub event_is : x.entry.event ≡ Step n
-  pub took_is : x.took ≡ Some a
-  pub needed : IsNeeded configs m n
+-- the entry is a step of this check that takes a verdict of the class and key that the check needs:
+-- it is kept and fresh then, and was given
+pub record TakesFresh (configs : List Configuration) (past : Past) (newest : Marked) (check : ℕ)
+    (answer : Answer) : Type 0 where
+  pub event_is : newest.entry.event ≡ Step check
+  pub took_is : newest.took ≡ Some answer
+  pub needed : IsNeeded configs past check
   pub question : ℕ
-  pub class_is : a.class ≡ needed.place
-  pub key_is : a.key ≡ needed.key
-  pub question_is : a.question ≡ Some question
-  pub taken_is : a.taken ≡ x.entry.moment
-  pub kept_is : verdict_of needed.key (kept configs m needed.asked.epoch needed.place)
-      ≡ Some (record { what = a.what; question = question; date = a.date })
-  pub fresh : is_fresh needed.class (record { what = a.what; question = question; date = a.date })
-      a.taken ≡ true
-  pub given : Given configs m needed.asked.epoch needed.place
-      (record { key = needed.key; what = a.what; question = question; date = a.date })
+  pub class_is : answer.class ≡ needed.place
+  pub key_is : answer.key ≡ needed.key
+  pub question_is : answer.question ≡ Some question
+  pub taken_is : answer.taken ≡ newest.entry.moment
+  pub kept_is : verdict_of needed.key (kept configs past needed.asked.epoch needed.place)
+      ≡ Some (record { what = answer.what; question = question; date = answer.date })
+  pub fresh : is_fresh needed.class
+      (record { what = answer.what; question = question; date = answer.date }) answer.taken ≡ true
+  pub given : Given configs past needed.asked.epoch needed.place
+      (record { key = needed.key; what = answer.what; question = question; date = answer.date })
 
--- the key that check n needs is too long
-abbrev pub IsTooLong : (configs : List Configuration) (m : Past) (n : ℕ) → IsNeeded configs m n
-    → Type 0
-IsTooLong configs m n d = nat_lt key_limit (length d.key) ≡ true
+-- the key that the check needs is too long
+abbrev pub IsTooLong : (configs : List Configuration) (past : Past) (check : ℕ)
+    → IsNeeded configs past check → Type 0
+IsTooLong configs past check needed = nat_lt key_limit (length needed.key) ≡ true
 
--- no verdict of the key that check n needs is fresh, no question of it is pending, and the farm of
--- its class is full
-pub record FindsNoRoom (configs : List Configuration) (m : Past) (n now : ℕ)
-    (d : IsNeeded configs m n) : Type 0 where
-  pub short : nat_lt key_limit (length d.key) ≡ false
-  pub none_fresh : fresh_for d.class d.key now (kept configs m d.asked.epoch d.place) ≡ None
-  pub none_pending : pending configs m d.asked.epoch d.place d.key ≡ None
-  pub is_full : full (farm_with configs m d.asked.epoch d.place d.class) ≡ true
+-- no verdict of the key that the check needs is fresh, no question of it is pending, and the farm
+-- of its class is full
+pub record FindsNoRoom (configs : List Configuration) (past : Past) (check now : ℕ)
+    (needed : IsNeeded configs past check) : Type 0 where
+  pub short : nat_lt key_limit (length needed.key) ≡ false
+  pub none_fresh : fresh_for needed.class needed.key now
+      (kept configs past needed.asked.epoch needed.place) ≡ None
+  pub none_pending : pending configs past needed.asked.epoch needed.place needed.key ≡ None
+  pub is_full : full (farm_with configs past needed.asked.epoch needed.place needed.class) ≡ true
 
--- a fault that a step takes for the class and key that check n needs
-abbrev pub fault_for : (configs : List Configuration) (m : Past) (n : ℕ) → IsNeeded configs m n
-    → Cause → ℕ → Answer
-fault_for configs m n d c now = record {
-  class = d.place;
-  key = d.key;
+-- a fault that a step takes for the class and key that the check needs
+abbrev pub fault_for : (configs : List Configuration) (past : Past) (check : ℕ)
+    → IsNeeded configs past check → Cause → ℕ → Answer
+fault_for configs past check needed c now = record {
+  class = needed.place;
+  key = needed.key;
   what = what.Fault c;
   question = None;
   date = now;
   taken = now;
 }
 
--- the entry is a step of check n that takes this fault for the class and key that the check needs:
--- the key is too long, or there is no room
-pub record TakesFault (configs : List Configuration) (m : Past) (x : Marked) (n : ℕ)
-    (a : Answer) : Type 0 where
-  pub event_is : x.entry.event ≡ Step n
-  pub took_is : x.took ≡ Some a
-  pub needed : IsNeeded configs m n
-  pub class_is : a.class ≡ needed.place
-  pub key_is : a.key ≡ needed.key
-  pub question_is : a.question ≡ None
-  pub date_is : a.date ≡ x.entry.moment
-  pub taken_is : a.taken ≡ x.entry.moment
-  pub cause_is : ((a.what ≡ what.Fault cause.KeyTooLong) × IsTooLong configs m n needed)
-      ⊎ ((a.what ≡ what.Fault cause.QueueFull) × FindsNoRoom configs m n x.entry.moment needed)
+-- the entry is a step of this check that takes this fault for the class and key that the check
+-- needs: the key is too long, or there is no room
+pub record TakesFault (configs : List Configuration) (past : Past) (newest : Marked) (check : ℕ)
+    (answer : Answer) : Type 0 where
+  pub event_is : newest.entry.event ≡ Step check
+  pub took_is : newest.took ≡ Some answer
+  pub needed : IsNeeded configs past check
+  pub class_is : answer.class ≡ needed.place
+  pub key_is : answer.key ≡ needed.key
+  pub question_is : answer.question ≡ None
+  pub date_is : answer.date ≡ newest.entry.moment
+  pub taken_is : answer.taken ≡ newest.entry.moment
+  pub cause_is : ((answer.what ≡ what.Fault cause.KeyTooLong) × IsTooLong configs past check needed)
+      ⊎ ((answer.what ≡ what.Fault cause.QueueFull)
+      × FindsNoRoom configs past check newest.entry.moment needed)
 
--- the entry ends the question that check n waits for, which was put for the class and key that the
--- check needs: with a fault, or with what a line gives
-pub record TakesEnd (configs : List Configuration) (m : Past) (x : Marked) (n : ℕ)
-    (a : Answer) : Type 0 where
+-- the entry ends the question that this check waits for, which was put for the class and key that
+-- the check needs: with a fault, or with what a line gives
+pub record TakesEnd (configs : List Configuration) (past : Past) (newest : Marked) (check : ℕ)
+    (answer : Answer) : Type 0 where
   pub question : ℕ
-  pub waits : waits_for configs m n ≡ Some question
-  pub needed : IsNeeded configs m n
-  pub put : put_is needed.asked.epoch needed.place needed.key (put_of m question) ≡ true
-  pub class_is : a.class ≡ needed.place
-  pub key_is : a.key ≡ needed.key
-  pub question_is : a.question ≡ Some question
-  pub date_is : a.date ≡ x.entry.moment
-  pub taken_is : a.taken ≡ x.entry.moment
-  pub end_is : end_at configs m question x.entry.event x.entry.answer ≡ Some a.what
-  pub given : (is_fault a.what ≡ true)
-      ⊎ Gives configs m x needed.asked.epoch needed.place
-      (record { key = needed.key; what = a.what; question = question; date = a.date })
+  pub waits : waits_for configs past check ≡ Some question
+  pub needed : IsNeeded configs past check
+  pub put : put_is needed.asked.epoch needed.place needed.key (put_of past question) ≡ true
+  pub class_is : answer.class ≡ needed.place
+  pub key_is : answer.key ≡ needed.key
+  pub question_is : answer.question ≡ Some question
+  pub date_is : answer.date ≡ newest.entry.moment
+  pub taken_is : answer.taken ≡ newest.entry.moment
+  pub end_is : end_at configs past question newest.entry.event newest.entry.answer
+      ≡ Some answer.what
+  pub given : (is_fault answer.what ≡ true)
+      ⊎ Gives configs past newest needed.asked.epoch needed.place
+      (record { key = needed.key; what = answer.what; question = question; date = answer.date })
 
--- where an answer of check n comes from: some entry gave it
+-- where an answer of a check comes from: some entry gave it
 abbrev pub IsSound : List Configuration → Past → ℕ → Answer → Type 0
-IsSound configs [] n a = ⊥
-IsSound configs (x ∷ m) n a = (TakesFresh configs m x n a
-    ⊎ (TakesFault configs m x n a ⊎ TakesEnd configs m x n a)) ⊎ IsSound configs m n a
+IsSound configs [] check answer = ⊥
+IsSound configs (newest ∷ past) check answer =
+    (TakesFresh configs past newest check answer
+    ⊎ (TakesFault configs past newest check answer ⊎ TakesEnd configs past newest check answer))
+    ⊎ IsSound configs past check answer
 
--- the event is an act that sends question q
+-- the event is an act that sends the question
 abbrev pub sends_question : ℕ → Event → Told → Bool
-sends_question q Act (told.Send p r channel key) = q == r
-sends_question q event answer = false
+sends_question question Act (told.Send p r channel key) = question == r
+sends_question question event answer = false
 
--- how often question q was sent
+-- how often the question was sent
 abbrev pub times_sent : Past → ℕ → ℕ
-times_sent [] q = 0
-times_sent (x ∷ m) q = if sends_question q x.entry.event x.entry.answer then suc (times_sent m q)
-    else times_sent m q
+times_sent [] question = 0
+times_sent (newest ∷ past) question =
+    if sends_question question newest.entry.event newest.entry.answer
+    then suc (times_sent past question)
+    else times_sent past question

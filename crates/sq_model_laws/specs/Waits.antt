@@ -21,33 +21,33 @@ use Rattle.sq_machine.specs.StepRule.{class_of_acl, value_over}
 -- no entry is of a later moment
 abbrev pub NoneLater : Past → ℕ → Type 0
 NoneLater [] now = Unit {0}
-NoneLater (x ∷ m) now = (x.entry.moment ≤ now) × NoneLater m now
+NoneLater (newest ∷ past) now = (newest.entry.moment ≤ now) × NoneLater past now
 
--- check n, over its answers, needs a key of a class
-pub record IsNeeded (configs : List Configuration) (m : Past) (n : ℕ) : Type 0 where
+-- the check, over its answers, needs a key of a class
+pub record IsNeeded (configs : List Configuration) (past : Past) (check : ℕ) : Type 0 where
   pub asked : Asked
   pub acl : ℕ
   pub key : List ℕ
   pub place : ℕ
   pub class : Class
-  pub ask_is : ask_of (entries m) n ≡ Some asked
-  pub value_is : value_over configs asked (answers configs m n) ≡ value.Need acl key
+  pub ask_is : ask_of (entries past) check ≡ Some asked
+  pub value_is : value_over configs asked (answers configs past check) ≡ value.Need acl key
   pub place_is : option_and_then (λ config. class_of_acl config.acls acl)
       (config_of configs asked.epoch) ≡ Some place
   pub class_is : class_at configs asked.epoch place ≡ Some class
 
--- check n needs the class and key that question q was put for, and has no answer of it
-pub record WaitsSo (configs : List Configuration) (m : Past) (n q : ℕ) : Type 0 where
-  pub needed : IsNeeded configs m n
-  pub put_is_it : put_is needed.asked.epoch needed.place needed.key (put_of m q) ≡ true
-  pub unanswered : has_answer (answers configs m n) needed.place needed.key ≡ false
+-- the check needs the class and key that the question was put for, and has no answer of it
+pub record WaitsSo (configs : List Configuration) (past : Past) (check question : ℕ) : Type 0 where
+  pub needed : IsNeeded configs past check
+  pub put_is_it : put_is needed.asked.epoch needed.place needed.key (put_of past question) ≡ true
+  pub unanswered : has_answer (answers configs past check) needed.place needed.key ≡ false
 
--- check n needs the class and key that question q was put for; the key is not too long, and no
+-- the check needs the class and key that the question was put for; the key is not too long, and no
 -- verdict of it is kept that will be fresh
-pub record NeedsPut (configs : List Configuration) (m : Past) (n q : ℕ) : Type 0 where
-  pub needed : IsNeeded configs m n
+pub record NeedsPut (configs : List Configuration) (past : Past) (check question : ℕ) : Type 0 where
+  pub needed : IsNeeded configs past check
   pub short : nat_lt key_limit (length needed.key) ≡ false
-  pub put_is_it : put_is needed.asked.epoch needed.place needed.key (put_of m q) ≡ true
-  pub stale : (now : ℕ) (v : CachedReply) → NoneLater m now
-      → verdict_of needed.key (kept configs m needed.asked.epoch needed.place) ≡ Some v
+  pub put_is_it : put_is needed.asked.epoch needed.place needed.key (put_of past question) ≡ true
+  pub stale : (now : ℕ) (v : CachedReply) → NoneLater past now
+      → verdict_of needed.key (kept configs past needed.asked.epoch needed.place) ≡ Some v
       → is_fresh needed.class v now ≡ false

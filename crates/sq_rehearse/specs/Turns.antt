@@ -10,15 +10,17 @@ use Rattle.sq_rehearse.specs.Summaries.{counted}
 
 -- the machine came to a history from which the driver goes on to the same end, and what that
 -- history came to was counted
-pub record TurnsTo (configs : List Configuration) (h : History) (d : Driver) (v : ScriptView)
-    (s : Summary) (e : Driver) : Type 0 where
+pub record TurnsTo (configs : List Configuration) (before : History) (driver : Driver)
+    (view : ScriptView) (summary : Summary) (later : Driver) : Type 0 where
   pub history : History
-  pub is : Is v configs history
-  pub counts : s ≡ counted history
-  pub same : (k : ℕ) → drive configs (suc k) d h ≡ drive configs k e history
+  pub is : Is view configs history
+  pub counts : summary ≡ counted history
+  pub same : (k : ℕ) → drive configs (suc k) driver before ≡ drive configs k later history
 
 -- or nothing comes after the history
 abbrev pub Turned : List Configuration → History → Driver → ScriptView → Summary → Driver → Bool
     → Type 0
-Turned configs h d v s e true = TurnsTo configs h d v s e
-Turned configs h d v s e false = (s ≡ counted h) × ((k : ℕ) → drive configs k d h ≡ h)
+Turned configs before driver view summary later true =
+    TurnsTo configs before driver view summary later
+Turned configs before driver view summary later false = (summary ≡ counted before)
+    × ((k : ℕ) → drive configs k driver before ≡ before)

@@ -84,11 +84,12 @@ head_text method target minor fields =
     ∷ flat_map field_line fields ++ cr ∷ lf ∷ []
 
 -- the head has these parts
-pub record HasParts (h : RequestHead) (m t : List ℕ) (n : ℕ) (fs : List Field) : Type 0 where
-  pub method : h.method ≡ m
-  pub target : h.target ≡ t
-  pub minor : h.minor ≡ n
-  pub fields : fields_of h ≡ fs
+pub record HasParts (tree : RequestHead) (method_text target_text : List ℕ) (version : ℕ)
+    (listed : List Field) : Type 0 where
+  pub method : tree.method ≡ method_text
+  pub target : tree.target ≡ target_text
+  pub minor : tree.minor ≡ version
+  pub fields : fields_of tree ≡ listed
 
 -- the head that is written of these parts is a head of the grammar, and reads as these parts
 abbrev pub IsWrittenHead : List ℕ → List ℕ → ℕ → List Field → Type 0

@@ -13,31 +13,32 @@ abbrev pub field_pair : Field → List ℕ × List ℕ
 field_pair f = (f.name, f.value)
 
 -- the spans lie in so many bytes
-pub record FitsIn (n : ℕ) (headers : List HeaderSpan) (s : RequestSpans) : Type 0 where
-  pub method : IsWithin n s.method
-  pub target : IsWithin n s.path
-  pub count : s.headers ≤ length headers
-  pub fields : All (IsHeaderWithin n) (take s.headers headers)
+pub record FitsIn (n : ℕ) (headers : List HeaderSpan) (spans : RequestSpans) : Type 0 where
+  pub method : IsWithin n spans.method
+  pub target : IsWithin n spans.path
+  pub count : spans.headers ≤ length headers
+  pub fields : All (IsHeaderWithin n) (take spans.headers headers)
 
 -- the bytes are the head h, and the spans cover its parts
-pub record Covers (head : List ℕ) (headers : List HeaderSpan) (s : RequestSpans)
+pub record Covers (head : List ℕ) (headers : List HeaderSpan) (spans : RequestSpans)
     (h : RequestHead) : Type 0 where
   pub whole : IsHead head h
-  pub method : span_bytes head s.method ≡ h.method
-  pub target : span_bytes head s.path ≡ h.target
-  pub minor : s.version ≡ h.minor
-  pub fields : map (header_bytes head) (take s.headers headers) ≡ map name_and_value h.fields
+  pub method : span_bytes head spans.method ≡ h.method
+  pub target : span_bytes head spans.path ≡ h.target
+  pub minor : spans.version ≡ h.minor
+  pub fields : map (header_bytes head) (take spans.headers headers) ≡ map name_and_value h.fields
 
 -- the spans are those of the head
 abbrev pub CoversHead : List ℕ → List HeaderSpan → RequestSpans → Type 0
-CoversHead head headers s = (h : RequestHead) × Covers head headers s h
+CoversHead head headers spans = (h : RequestHead) × Covers head headers spans h
 
 -- each head that the bytes are has more fields than this
 abbrev pub HasMoreThan : ℕ → List ℕ → Type 0
 HasMoreThan room head = (h : RequestHead) → IsHead head h → room < length h.fields
 
 -- the spans cover these parts of a head's first line
-pub record CoversLine (head : List ℕ) (s : RequestSpans) (m t : List ℕ) (n : ℕ) : Type 0 where
-  pub method : span_bytes head s.method ≡ m
-  pub target : span_bytes head s.path ≡ t
-  pub minor : s.version ≡ n
+pub record CoversLine (head : List ℕ) (spans : RequestSpans) (method_text target_text : List ℕ)
+    (version : ℕ) : Type 0 where
+  pub method : span_bytes head spans.method ≡ method_text
+  pub target : span_bytes head spans.path ≡ target_text
+  pub minor : spans.version ≡ version
