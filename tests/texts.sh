@@ -54,6 +54,8 @@ none 'type names that are declared twice in library crates' "$(in_those '^crates
 # A function or a relation that takes much takes it as one value with names: tests/sizes.py has the bounds.
 if command -v python3 >/dev/null; then
     none 'functions and relations that take too much at once' "$(python3 tests/sizes.py 2>&1)"
+    # Within how many columns definitions, clauses and proofs stand: tests/columns.py.
+    none 'lines that are too long' "$(python3 tests/columns.py 2>&1)"
 fi
 # An edit replaces a line that stands once in its file; further ones apply to what the earlier ones made.
 none 'edits that cannot be applied' "$(in_those '/must-fail/.*\.edit$' awk '

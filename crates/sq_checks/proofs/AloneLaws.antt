@@ -1,4 +1,5 @@
--- For those who open and close connections: each has one open check at most, and to leave out its checks is to leave out that one.
+-- For those who open and close connections: each has one open check at most,
+-- and to leave out its checks is to leave out that one.
 use Rattle.std.proofs.Common.{◌≡◌, ◌∙◌, ◌==◌, ◌<◌, ℕ, List, [], ◌∷◌, ◌++◌, Bool, true, false, if◌then◌else◌, map, Option, None, Some, refl, ap, sym, subst, arith}
 use Rattle.std.proofs.lemmas.Bool.Decides.{nat_tests}
 use Rattle.std.specs.Option.{option_map, option_and_then}

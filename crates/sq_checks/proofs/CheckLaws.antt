@@ -229,9 +229,12 @@ pub looked_on : (config : Configuration) (sight : Sight) (answers : List Answer)
     → new ≤ leaves_over answers config sight
     → IsLooked config sight answers new s
 looked_on config sight answers old new stage.Ready h k more few = tt
-looked_on config sight answers old new (stage.Came a) h k more few = still_looked config sight answers old new h k more few
-looked_on config sight answers old new (stage.Waits n) h k more few = still_looked config sight answers old new h k more few
-looked_on config sight answers old new (stage.Done o) h k more few = still_looked config sight answers old new h k more few
+looked_on config sight answers old new (stage.Came a) h k more few =
+    still_looked config sight answers old new h k more few
+looked_on config sight answers old new (stage.Waits n) h k more few =
+    still_looked config sight answers old new h k more few
+looked_on config sight answers old new (stage.Done o) h k more few =
+    still_looked config sight answers old new h k more few
 
 -- for what is waited for: the looks are those over the answers
 pub need_looked : (config : Configuration) (sight : Sight) (answers : List Answer) (looks : ℕ) (s : CheckStage)

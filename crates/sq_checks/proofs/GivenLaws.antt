@@ -1,4 +1,5 @@
--- The rules come to the same over what the frames of a check were given as over its answers, and what was given stays so as more answers come.
+-- The rules come to the same over what the frames of a check were given as over its answers,
+-- and what was given stays so as more answers come.
 use Rattle.std.proofs.Common.{◌≡◌, ◌≢◌, ◌≤◌, ℕ, ◌+◌, zero, suc, List, [], ◌∷◌, ◌++◌, Bool, true, false, ◌==◌, ◌&&◌, ◌||◌, if◌then◌else◌, bytes_eq, Option, Some, None, IfSome, refl, sym, ap, subst, ◌∙◌, map, min, slice_get, slice_index_or, arith}
 use Rattle.std.proofs.lemmas.Bool.Decides.{nat_tests}
 use Rattle.std.proofs.lemmas.Option.{none-some, same_Some}

@@ -83,15 +83,16 @@ is_need (value.Verdict o) = false
 is_need (value.Need acl key) = true
 
 -- this is what a check comes to, and it looked at as many facts as the walk over its answers has
--- leaf acls; where it is a need, the check is not done, has no answer of that class and key, and the
--- key is that of the acl
+-- leaf acls; where it is a need, the check is not done, has no answer of that class and key, and
+-- the key is that of the acl
 pub record HasCome (c : CheckParts) (v : Value) : Type 0 where
   pub comes : v ≡ comes_to c
   pub looks : c.looks ≡ looks_over c.answers c.config c.sight
   pub idle : is_need v ≡ true → is_idle c.stage ≡ true
   pub other : (acl class : ℕ) (key : List ℕ) → v ≡ value.Need acl key
       → class_of_acl c.config.acls acl ≡ Some class → has_answer c.answers class key ≡ false
-  pub keyed : (acl : ℕ) (key : List ℕ) → v ≡ value.Need acl key → key_text c.config acl c.sight ≡ key
+  pub keyed : (acl : ℕ) (key : List ℕ) → v ≡ value.Need acl key
+      → key_text c.config acl c.sight ≡ key
 
 -- a check after so many looks more
 abbrev pub looked : ℕ → CheckParts → CheckParts

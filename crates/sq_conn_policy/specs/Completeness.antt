@@ -47,8 +47,8 @@ sent_as r more = if is_connect r then r else put_by r more
 -- the turn of a request whose hosts are accepted, and whose fields give a plan of its body: it gets
 -- the denial of the record that the front answered, the redirect that the rewriter answered about
 -- that record, the 501 of the scheme of the request that goes on, or what the origin's bytes give
--- for that, with the fields that the configuration of the record allows; or its turn is that of no memory, with the reply that says so or with none. How it ended
--- is said by the session
+-- for that, with the fields that the configuration of the record allows; or its turn is that of no
+-- memory, with the reply that says so or with none. How it ended is said by the session
 pub data Completes (r : HttpRequest) (addr : Address) (p : BodyPlan) (rest : List ℕ)
     (answers : List FrontAnswer) (reply : Reply) (t : ClientTurn) : Type 0 where
   GetsDenial : (j : Judged) (more : List FrontAnswer)

@@ -1,5 +1,5 @@
--- What the opening of a connection, its close, a question about a request, one to the rewriter and a
--- seat make of what a hub tells.
+-- What the opening of a connection, its close, a question about a request, one to the rewriter and
+-- a seat make of what a hub tells.
 use Rattle.std.specs.Prelude.{◌≡◌, ◌⊎◌, ℕ, ◌==◌, List, [], ◌∷◌, ◌++◌, Bool, true, false, ◌||◌, Some, None, is_some, Ok, Err, ⊤}
 use Rattle.std.specs.List.{list_all}
 use Rattle.std.specs.declared.option.Option.{Option}
@@ -280,8 +280,8 @@ abbrev pub seat_of : (ℕ → HeldSeat) → Result ℕ ChooseFault → Result (O
 seat_of make (Ok n) = Ok (Some (make n))
 seat_of make (Err fault) = Err (unseated_of fault)
 
--- the seat of a record, where it is seated so: none where that is nowhere, or the hub's choice in its
--- pool, in pools of the one kind or of the other
+-- the seat of a record, where it is seated so: none where that is nowhere, or the hub's choice in
+-- its pool, in pools of the one kind or of the other
 abbrev pub SeatsAt : Judged → SeatPlace → Result (Option HeldSeat) SitFault → HubState → HubState
     → Type 0
 SeatsAt j Nowhere said old new = (said ≡ Ok None) × (new ≡ old)
@@ -297,7 +297,8 @@ abbrev pub Seats : Judged → Result (Option HeldSeat) SitFault → HubState →
 Seats j said old new = SeatsAt j (seat_place j.config j.sight j.answers) said old new
     ⊎ ((needs_tag j ≡ true) × (said ≡ Err sit.WantOfMemory) × (new ≡ old))
 
--- a call for a seat: the front holds the seat of the record, or, where that is refused, what it held
+-- a call for a seat: the front holds the seat of the record, or, where that is refused, what it
+-- held
 abbrev pub Sits : Judged → Result (Unit {0}) SitFault → Option HeldSeat → Option HeldSeat → HubState
     → HubState → Type 0
 Sits j (Ok u) before now old new = Seats j (Ok now) old new

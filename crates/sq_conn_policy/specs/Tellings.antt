@@ -1,5 +1,5 @@
--- What a hub tells of the machine, of the rewriter and of the delay pools, and what each of its calls
--- makes of that.
+-- What a hub tells of the machine, of the rewriter and of the delay pools, and what each of its
+-- calls makes of that.
 use Rattle.std.specs.Prelude.{◌≡◌, ℕ, ◌<◌, ◌≤◌, List, ◌∷◌, ◌++◌, Bool, true, false, max, suc, Some, None, is_some, Ok, Err, OnErr, ⊤}
 use Rattle.std.specs.List.{list_all}
 use Rattle.std.specs.Option.{option_map}
@@ -210,8 +210,8 @@ pub record LeavesAddressed (v w : HubState) : Type 0 where
   pub rest : LeavesMachine v w
   pub addressed : w.pools.addressed ≡ v.pools.addressed
 
--- a seat, with the next number, of which C holds; it is refused as spent exactly where that would be
--- the last
+-- a seat, with the next number, of which C holds; it is refused as spent exactly where that would
+-- be the last
 abbrev pub ChoosesSeat : (Basin → Basin → Type 0) → Result ℕ ChooseFault → Basin → Basin → Type 0
 ChoosesSeat C (Ok seat) old new = (seat ≡ suc old.given) × (suc old.given < last_number) × C old new
 ChoosesSeat C (Err choose.Spent) old new = (suc old.given ≡ last_number) × (new ≡ old)
@@ -276,7 +276,8 @@ pub record Puts (j : Judged) (result : Result ℕ RewriteFault) (v w : HubState)
   pub rest : LeavesOthers v w
   pub puts : PutsBy j result v.rewriter w.rewriter
 
--- what a question came to is taken as the rewriter gives it; where there is none, it has no question
+-- what a question came to is taken as the rewriter gives it; where there is none, it has no
+-- question
 abbrev pub TakesBy : ℕ → Result (Option Rewriting) RewriteFault → Option RewriteState
     → Option RewriteState → Type 0
 TakesBy q result None new = (result ≡ Err (fault.UnknownQuestion q)) × (new ≡ None)

@@ -51,7 +51,8 @@ explained_push acls a was word =
     (and_from (is_explained (names_of acls ++ a.name ∷ []) a.name) true
     (word_explained (names_of acls ++ a.name ∷ []) a.name word) refl)
 
-any_behind : (p : List ℕ → Bool) (front ends : List (List ℕ)) → list_any p ends ≡ true → list_any p (front ++ ends) ≡ true
+any_behind : (p : List ℕ → Bool) (front ends : List (List ℕ)) → list_any p ends ≡ true
+    → list_any p (front ++ ends) ≡ true
 any_behind p front ends e = let whole = list_any-append p front ends in grind (arith, whole, e)
 
 fourth : (p : List ℕ → Bool) (a b c d : List ℕ) → p d ≡ true → list_any p (a ∷ b ∷ c ∷ d ∷ []) ≡ true
@@ -213,11 +214,12 @@ free_but_dst acls n known free other =
     let new : list_any (λ x. bytes_eq x n) (names_of acls) ≡ false =
     sym (named_by acls n) ∙ sym (place_tells (λ (a : Acl). a.name) 0 acls n) ∙ ap is_some free in
     and_from (is_none (place_of acls (literal_name n))) _
-    (free_of acls (literal_name n) known (literal_blank n) (literal_other n other) (literal_unmade n (names_of acls) new))
+    (free_of acls (literal_name n) known (literal_blank n) (literal_other n other)
+    (literal_unmade n (names_of acls) new))
     (and_from (is_none (place_of acls (lookup_name n))) (is_none (place_of acls (named_name n)))
     (free_of acls (lookup_name n) known (lookup_blank n)
-    (ends_apart (lookup_name n) (codes "dst literal") (n ++ codes " looku") (codes "dst litera") 112 108 (lookup_split n)
-    refl refl) (lookup_unmade n (names_of acls) new))
+    (ends_apart (lookup_name n) (codes "dst literal") (n ++ codes " looku") (codes "dst litera") 112 108
+    (lookup_split n) refl refl) (lookup_unmade n (names_of acls) new))
     (free_of acls (named_name n) known (named_blank n)
     (ends_apart (named_name n) (codes "dst literal") (n ++ codes " name") (codes "dst litera") 100 108 (named_split n)
     refl refl) (named_unmade n (names_of acls) new)))

@@ -310,7 +310,8 @@ is_name token.AclName rest e = refl
 is_name token.Arguments rest e = cc
 is_name token.Percent rest e = cc
 
-is_arguments : (t : Token) (rest : List Token) → is_lookup_format (token.Host ∷ token.AclName ∷ t ∷ rest) ≡ true → t ≡ token.Arguments
+is_arguments : (t : Token) (rest : List Token) → is_lookup_format (token.Host ∷ token.AclName ∷ t ∷ rest) ≡ true
+    → t ≡ token.Arguments
 is_arguments token.ClientAddr rest e = cc
 is_arguments token.ClientPort rest e = cc
 is_arguments token.Method rest e = cc
@@ -411,7 +412,8 @@ all_value c s answers place a lines known at is =
     ∙ ap (body_value (taken_at c s answers) (value_of c s answers) place) is
 
 asked_value : (c : Configuration) (s : Sight) (answers : List Answer) (place : ℕ) (a : Acl)
-    → are_known_bodies (length c.classes) 0 c.acls ≡ true → slice_get c.acls place ≡ Some a → a.body ≡ body.External 0 []
+    → are_known_bodies (length c.classes) 0 c.acls ≡ true → slice_get c.acls place ≡ Some a
+    → a.body ≡ body.External 0 []
     → value_of c s answers (plain_term place)
     ≡ answer_value place (key_text c place s) (answer_for answers 0 (key_text c place s))
 asked_value c s answers place a known at is =
@@ -448,7 +450,8 @@ named_hit c s answers p a name known four named first class fits hit =
     let whole : either (both (value_of c s answers no_literal ∷ asked ∷ []) ∷ []) ≡ Hit =
     sym (all_value c s answers (suc (suc p)) four.named _ known four.named_at named_is) ∙ hit in
     let line : both (value_of c s answers no_literal ∷ asked ∷ []) ≡ Hit = hit_alone _ whole in
-    let parted : both (negated (value_if (in_ranges (first.range ∷ first.ranges) s.request.literal)) ∷ asked ∷ []) ≡ Hit =
+    let parted : both (negated (value_if (in_ranges (first.range ∷ first.ranges) s.request.literal)) ∷ asked ∷ [])
+    ≡ Hit =
     ap (λ v. both (v ∷ asked ∷ []))
     (sym (not_value c s answers first.name (first.range ∷ first.ranges) known first.at)) ∙ line in
     let two = hit_both (in_ranges (first.range ∷ first.ranges) s.request.literal) asked parted in

@@ -29,7 +29,8 @@ front_by : (end text front : List ℕ) (n : ℕ) (t : Bool) → bytes_eq (drop n
     → (if t then Some (take n text) else None) ≡ Some front → text ≡ front ++ end
 front_by end text front n true is e =
     let same : take n text ≡ front = cc in
-    sym (take-append-drop n text) ∙ ap (λ l. l ++ drop n text) same ∙ ap (λ l. front ++ l) (same_of (drop n text) end is)
+    sym (take-append-drop n text) ∙ ap (λ l. l ++ drop n text) same
+    ∙ ap (λ l. front ++ l) (same_of (drop n text) end is)
 front_by end text front n false is e = cc
 
 pub has_end : (end text front : List ℕ) → before_end end text ≡ Some front → text ≡ front ++ end
@@ -120,7 +121,8 @@ before_means : (question : List ℕ) (k : LookupKey) (o : Option (List ℕ)) →
     → key_before o ≡ Some k → question ≡ lookup_text k.host k.acl
 before_means question k None is e = cc
 before_means question k (Some words) is e =
-    has_end (codes " -") question words is ∙ ap (λ l. l ++ codes " -") (key_means_at words k (position is_space words) refl e)
+    has_end (codes " -") question words is
+    ∙ ap (λ l. l ++ codes " -") (key_means_at words k (position is_space words) refl e)
     ∙ append_assoc (key_escaped k.host) (space ∷ key_escaped k.acl) (codes " -")
 
 within_means : (question : List ℕ) (k : LookupKey) (t : Bool)

@@ -1,6 +1,6 @@
 -- What a question about a host is answered: whether some address of the host lies in the values of
--- the acl that asks (configuration reference, `acl`: type dst; Squid's helper protocol page: OK, ERR
--- and BH).
+-- the acl that asks (configuration reference, `acl`: type dst; Squid's helper protocol page: OK,
+-- ERR and BH).
 use Rattle.std.specs.Prelude.{ℕ, List, [], Bool, false, ◌&&◌, if◌then◌else◌, Some, None, codes, bytes_eq, find}
 use Rattle.std.specs.List.{list_any}
 use Rattle.std.specs.declared.option.Option.{Option}
@@ -40,7 +40,8 @@ abbrev pub literal_values : List Acl → Option (List ℕ) → Option (List Rang
 literal_values acls None = None
 literal_values acls (Some name) = values_in (acl_named acls (literal_name name))
 
--- the values for which the acl of this name asks: it is `N lookup`, and they are those of `N literal`
+-- the values for which the acl of this name asks: it is `N lookup`, and they are those of
+-- `N literal`
 abbrev pub asked_values : Configuration → List ℕ → Option (List Range)
 asked_values c name = if c.dst_lookup && asks (acl_named c.acls name)
     then literal_values c.acls (before_end (codes " lookup") name) else None

@@ -71,8 +71,8 @@ looked_begun false k o b e = (b, 0, e, refl)
 pub kept_looked : (m k : ℕ) (old new : List (ℕ × CheckParts)) → new ≡ change_at m (looked k) old → AreKeptBut m old new
 kept_looked m k old new list = λ n b h.
     looked_begun (m == n) k (value_at old n) b
-    (sym (ap (λ es. option_map begun_of (value_at es n)) list ∙ ap (option_map begun_of) (changed_at m n (looked k) old))
-    ∙ h)
+    (sym (ap (λ es. option_map begun_of (value_at es n)) list
+    ∙ ap (option_map begun_of) (changed_at m n (looked k) old)) ∙ h)
 
 mapped_begun : (t : Bool) (f : CheckParts → CheckParts) (o : Option CheckParts)
     → ((k : CheckParts) → begun_of (f k) ≡ begun_of k) → option_map begun_of (mapped_if t f o) ≡ option_map begun_of o

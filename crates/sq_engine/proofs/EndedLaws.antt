@@ -198,7 +198,8 @@ was_ended : (f : CheckParts → CheckParts) (o : Option CheckParts) (k : CheckPa
 was_ended f None k e = absurd (none-some k e)
 was_ended f (Some j) k e = record { check = j; was = refl; is = same_Some _ _ e }
 
--- the engine after questions of class c of epoch e ended, and the checks that waited for them were given what they came to
+-- the engine after questions of class c of epoch e ended,
+-- and the checks that waited for them were given what they came to
 pub ended_engine : (v : EngineView) (new : EpochsState) (cs : List (ℕ × CheckParts)) (t e c : ℕ)
     (F : ClassRow → ClassRow) (gone : ℕ → Bool) (f : CheckParts → CheckParts) (ends : Ends) → IsEngine v
     → IsChanged e c (HasEnds F gone) v.epochs (record new { homes = v.epochs.homes; stops = v.epochs.stops })

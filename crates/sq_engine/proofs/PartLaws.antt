@@ -56,7 +56,8 @@ part_there e c before after old new k f d there = by (e == f && c == d) refl
         ∙ k.here)
     by false t = ap is_some (k.other f d t) ∙ there
 
--- what holds of a part after a change: its lost questions were handed out, what is waited for is open, and questions that were not open are new
+-- what holds of a part after a change: its lost questions were handed out, what is waited for is open,
+-- and questions that were not open are new
 pub record PartFed (puts : ℕ) (before after : PartState) : Type 0 where
   pub below : all_below (suc puts) after.row.lookups ≡ true
   pub none_lost : after.row.stock.losses ≡ []

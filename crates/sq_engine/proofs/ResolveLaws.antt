@@ -160,7 +160,8 @@ rows_resolved v t e c n key class said new ch f d = by (e == f && c == d) refl
     by true x =
         let s = says_of_row class e c key t v.puts ch.before.row in
         let k =
-        part_changed e c (IsResolved class c key (record { now = t; check = n; count = v.puts }) said) v.epochs new ch in
+        part_changed e c (IsResolved class c key (record { now = t; check = n; count = v.puts }) said)
+        v.epochs new ch in
         let place = need_place class (record { epoch = e; class = c; key = key }) t ch.before.row.kept
         (pending_in key ch.before.row.lookups) (full ch.before.row.stock) v.puts in
         let here : row_at new e c ≡ option_map (after_said (e == e) e c v.puts s) (row_at v.epochs e c) =
@@ -176,7 +177,8 @@ rows_resolved v t e c n key class said new ch f d = by (e == f && c == d) refl
     by false x =
         let s = says_of_row class e c key t v.puts ch.before.row in
         let k =
-        part_changed e c (IsResolved class c key (record { now = t; check = n; count = v.puts }) said) v.epochs new ch in
+        part_changed e c (IsResolved class c key (record { now = t; check = n; count = v.puts }) said)
+        v.epochs new ch in
         let place = need_place class (record { epoch = e; class = c; key = key }) t ch.before.row.kept
         (pending_in key ch.before.row.lookups) (full ch.before.row.stock) v.puts in
         ap (option_map (λ p. p.row)) (k.other f d x) ∙ map_else e c f d v.puts s (part_at v.epochs f d) x place

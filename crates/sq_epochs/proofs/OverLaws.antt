@@ -51,7 +51,8 @@ gone_same : (v w : EpochsState) (o : Option ClassId) → ((f : ℕ) → is_some 
 gone_same v w None same = refl
 gone_same v w (Some p) same = ap not (same p.epoch)
 
--- what is read of an epoch, but how many checks are open, is after a check is over as before where the epoch still lives
+-- what is read of an epoch, but how many checks are open,
+-- is after a check is over as before where the epoch still lives
 pub read_ended : {A : Type 0} (read : Option EpochState → Option A) (e f : ℕ) (v : EpochsState) → read None ≡ None
     → ((o : Option EpochState) → read (option_map check_less o) ≡ read o)
     → read (epoch_at (after_ended e v) f)

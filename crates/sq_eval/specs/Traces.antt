@@ -44,7 +44,8 @@ abbrev pub acl_traced : TagInputs → ℕ → Traced
 acl_traced t place =
     let f = term_seen (taken_by_tags t) t.config.now.acls in
     trace (tags_in t) (record {
-      value = acl_value (taken_by_tags t) (λ m. (f m).value) place (slice_get t.config.now.acls place);
+      value = acl_value (taken_by_tags t) (λ m. (f m).value) place
+          (slice_get t.config.now.acls place);
       walk = acl_walk f place (slice_get t.config.now.acls place);
     })
 

@@ -11,8 +11,8 @@ read_limit = 16384
 abbrev pub large_read_limit : ℕ
 large_read_limit = 65536
 
--- the bytes stand in it from one place to another, with few before them and few behind; the spare room is no more than
--- for one read
+-- the bytes stand in it from one place to another, with few before them and few behind; the spare
+-- room is no more than for one read
 pub record IsBuffer (bytes : List ℕ) (start end : ℕ) (spare : List ℕ) : Type 0 where
   pub ordered : start ≤ end
   pub within : end ≤ length bytes

@@ -69,7 +69,8 @@ body_end to_close closes body =
     || (to_close && not (is_refused body.place)) then (if closes then Closed else Kept)
     else OriginCut
 
-abbrev pub replied_by : HeaderAccess → HttpRequest → ReplyHead → Result BodyPlan bad.BadBody → List ℕ → Replied
+abbrev pub replied_by : HeaderAccess → HttpRequest → ReplyHead → Result BodyPlan bad.BadBody
+    → List ℕ → Replied
 replied_by access r h (Err fault) bytes = no_reply
 replied_by access r h (Ok p) bytes =
     let body = body_of p (shape_of r p).chunked bytes in
@@ -120,7 +121,8 @@ answered access r own origin body reading =
 abbrev pub exchange : HeaderAccess → HttpRequest → Address → BodyPlan → List ℕ → Reading → Exchange
 exchange access r addr p input reading =
     let body = body_of p (is_chunked p) input in
-    answered access r (continue_part r p) (head_out_where access.request r addr p ++ body.out) body reading
+    answered access r (continue_part r p)
+    (head_out_where access.request r addr p ++ body.out) body reading
 
 -- a request that goes out, the address of the client that asked, and the plan of its body
 pub record Message : Type 0 where

@@ -77,8 +77,8 @@ marked_none true mark h = cc
 marked_none false mark h = refl
 
 -- an option that is the first of a field's name
-pub first_marked : (fields : List Field) (before after : List (List ℕ × Bool)) (kept options : List (List ℕ)) (o : List ℕ)
-    → IsMarked fields before kept options → mark_of before o ≡ Some false
+pub first_marked : (fields : List Field) (before after : List (List ℕ × Bool)) (kept options : List (List ℕ))
+    (o : List ℕ) → IsMarked fields before kept options → mark_of before o ≡ Some false
     → ((k : List ℕ) → mark_at after k ≡ cond (bytes_eq (str_to_ascii_lowercase o) k) (Some true) (mark_at before k))
     → IsMarked fields after (kept ++ o ∷ []) (options ++ o ∷ [])
 first_marked fields before after kept options o was here put =

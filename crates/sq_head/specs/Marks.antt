@@ -26,8 +26,11 @@ mark_of marks name = mark_at marks (str_to_ascii_lowercase name)
 abbrev pub marked_if : Bool → Bool → Option Bool
 marked_if here mark = if here then Some mark else None
 
--- a mark at the name of each field says whether it is one of those that are kept, and of the names of
--- fields these tell what all options so far tell
-pub record IsMarked (fields : List Field) (marks : List (List ℕ × Bool)) (kept options : List (List ℕ)) : Type 0 where
-  pub marked : (name : List ℕ) → mark_of marks name ≡ marked_if (names_some fields name) (is_one_of kept name)
-  pub tells : (name : List ℕ) → names_some fields name ≡ true → is_one_of kept name ≡ is_one_of options name
+-- a mark at the name of each field says whether it is one of those that are kept, and of the names
+-- of fields these tell what all options so far tell
+pub record IsMarked (fields : List Field) (marks : List (List ℕ × Bool))
+    (kept options : List (List ℕ)) : Type 0 where
+  pub marked : (name : List ℕ) → mark_of marks name
+      ≡ marked_if (names_some fields name) (is_one_of kept name)
+  pub tells : (name : List ℕ) → names_some fields name ≡ true
+      → is_one_of kept name ≡ is_one_of options name

@@ -30,7 +30,8 @@ so allow = value.Verdict (record { allow = allow; why = why.Default })
 abbrev pub comes_to : (ℕ → TermValue) → List Acl → Bool → List Rule → Bool
 comes_to taken acls default [] = default
 comes_to taken acls default (r ∷ rules) =
-    (outcome_so_far (decided acls 0 r (rule_value taken acls r) (so (comes_to taken acls (not r.allow) rules)))).allow
+    (outcome_so_far (decided acls 0 r (rule_value taken acls r)
+    (so (comes_to taken acls (not r.allow) rules)))).allow
 
 -- what rules come to of which the last ones are still to come; nothing, where there is none
 abbrev pub settled : (ℕ → TermValue) → List Acl → Standing → List Rule → Option Bool
@@ -41,8 +42,8 @@ settled taken acls (Decided allow) rules = Some allow
 
 -- what the rules for all fields come to
 abbrev pub others_allowed : Configuration → List Bool → Bool → Bool
-others_allowed c facts reply =
-    unwrap_or (settled (fact_taken facts) c.acls Unnamed (rules_for reply (codes "all") c.headers)) true
+others_allowed c facts reply = unwrap_or
+    (settled (fact_taken facts) c.acls Unnamed (rules_for reply (codes "all") c.headers)) true
 
 -- what stands at a key
 abbrev pub standing_at : List (List ℕ × Standing) → List ℕ → Option Standing
@@ -53,7 +54,8 @@ abbrev pub AreStandings : (ℕ → TermValue) → List Acl → Bool → List Hea
     → List (List ℕ × Standing) → Type 0
 AreStandings taken acls reply headers rest table =
     (name : List ℕ) → IfSome (standing_at table (str_to_ascii_lowercase name))
-    (λ s. settled taken acls s (rules_for reply name rest) ≡ settled taken acls Unnamed (rules_for reply name headers))
+    (λ s. settled taken acls s (rules_for reply name rest)
+    ≡ settled taken acls Unnamed (rules_for reply name headers))
 
 -- what was decided of names is right
 abbrev pub AreDecided : Configuration → List Bool → Bool → List DecidedName → Type 0

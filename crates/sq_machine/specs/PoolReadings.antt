@@ -1,8 +1,9 @@
 -- In the statement: docs/STATEMENT.md lists which definitions.
 -- Delay pools over what happens to them: generations, seats, buckets, and what a grant answers
--- (configuration reference, `delay_pools`, `delay_class`, `delay_access`, `delay_parameters`). Pools
--- with buckets by addresses and those with buckets by tags have generations of their own, so each of
--- both kinds has such a history of its own, in which seats of the other kind take numbers alone.
+-- (configuration reference, `delay_pools`, `delay_class`, `delay_access`, `delay_parameters`).
+-- Pools with buckets by addresses and those with buckets by tags have generations of their own, so
+-- each of both kinds has such a history of its own, in which seats of the other kind take numbers
+-- alone.
 use Rattle.std.specs.Prelude.{◌≡◌, ℕ, ◌+◌, ◌-◌, ◌*◌, ◌/◌, ◌%◌, ⊤, List, [], ◌∷◌, Bool, true, false, ◌&&◌, ◌||◌, ◌==◌, if◌then◌else◌, min, suc, zero, Some, None, is_some, is_none, slice_get, bytes_eq}
 use Rattle.std.specs.Option.{option_map, option_or, option_map_or}
 use Rattle.std.specs.List.{list_any}
@@ -68,7 +69,8 @@ spots_in pools pool a = option_map_or (λ p. spots_of pool p a) (slice_get pools
 
 abbrev pub tag_spot_if : ℕ → List ℕ → Option Limit → List BucketSpot
 tag_spot_if pool tag None = []
-tag_spot_if pool tag (Some r) = record { pool = pool; place = 0; host = 0; limit = r; tag = tag } ∷ []
+tag_spot_if pool tag (Some r) =
+    record { pool = pool; place = 0; host = 0; limit = r; tag = tag } ∷ []
 
 -- the bucket of a tag in the pool at this place: its one pair, where that has a limit
 abbrev pub tag_spots_of : ℕ → Pool → List ℕ → List BucketSpot

@@ -50,4 +50,5 @@ answers_after configs m c event before = before
 -- the answers of that record: those that its check had as it was taken
 abbrev pub taken_answers : List Configuration → Past → ℕ → List Answer
 taken_answers configs [] c = []
-taken_answers configs (x ∷ m) c = answers_after configs m c x.entry.event (taken_answers configs m c)
+taken_answers configs (x ∷ m) c =
+    answers_after configs m c x.entry.event (taken_answers configs m c)

@@ -1,4 +1,5 @@
--- The channels of a class's processes hold what was sent to them and has not ended, and each question once: so it stays after each event.
+-- The channels of a class's processes hold what was sent to them and has not ended, and each question once:
+-- so it stays after each event.
 use Rattle.std.proofs.Common.{◌≡◌, ℕ, suc, ◌<◌, ◌≤◌, max, replicate, zero, List, [], ◌∷◌, Bool, true, false, not, ◌&&◌, ◌||◌, ◌==◌, nat_le, nat_lt, bytes_eq, if◌then◌else◌, Option, Some, None, is_some, refl, sym, ap, ap₂, subst, ◌∙◌, arith}
 use Rattle.std.specs.Option.{option_map_or, option_or}
 use Rattle.std.proofs.lemmas.Bool.{and_parts, le-leb}

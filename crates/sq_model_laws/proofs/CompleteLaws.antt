@@ -1,4 +1,5 @@
--- What a step of a check tells: to wait only for a key that has no answer, that the check is done where it needs none; and how many answers are taken.
+-- What a step of a check tells: to wait only for a key that has no answer,
+-- that the check is done where it needs none; and how many answers are taken.
 use Rattle.std.proofs.Common.{◌≡◌, inl, inr, ℕ, suc, ◌≤◌, List, [], ◌∷◌, ◌++◌, length, length-append, Bool, true, false, not, ◌&&◌, ◌||◌, ◌==◌, nat_le, nat_lt, bytes_eq, if◌then◌else◌, Option, Some, None, is_some, option_to_list, refl, sym, ap, ap₂, subst, ◌∙◌, arith}
 use Rattle.std.specs.List.{list_any}
 use Rattle.std.proofs.lemmas.Bool.{and_parts}

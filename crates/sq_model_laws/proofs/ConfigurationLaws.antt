@@ -1,4 +1,5 @@
--- Where each configuration is one: no two classes of an epoch have one name, a key is needed of a class that is there, and a step says that a check is done only at a verdict.
+-- Where each configuration is one: no two classes of an epoch have one name,
+-- a key is needed of a class that is there, and a step says that a check is done only at a verdict.
 use Rattle.std.proofs.Common.{◌≡◌, ℕ, zero, suc, List, [], ◌∷◌, Bool, true, false, not, ◌||◌, nat_lt, length, bytes_eq, slice_get, if◌then◌else◌, Option, Some, None, is_some, refl, sym, ap, subst, ◌∙◌, arith}
 use Rattle.std.specs.List.{list_any}
 use Rattle.std.specs.Option.{option_and_then, option_map_or}

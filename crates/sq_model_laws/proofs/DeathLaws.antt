@@ -1,4 +1,5 @@
--- A class after the end of one of its processes: a death, or a line that is outside the grammar or stands on a free channel.
+-- A class after the end of one of its processes:
+-- a death, or a line that is outside the grammar or stands on a free channel.
 use Rattle.std.proofs.Common.{◌≡◌, ℕ, ◌≤◌, List, ◌∷◌, filter, Bool, true, false, not, ◌&&◌, ◌||◌, ◌==◌, nat_le, if◌then◌else◌, Option, Some, None, is_some, refl, sym, ap, ap₂, ◌∙◌}
 use Rattle.std.specs.Option.{option_or}
 use Rattle.std.proofs.lemmas.Bool.{le-leb}

@@ -464,7 +464,8 @@ sent_text (v ∷ queue) (Some t) s w rest e is = sym (ap text is) ∙ ap (λ (z 
     text [] = []
     text (z ∷ zs) = z.text
 
--- a send that is due: its question was put for a class, with the key that is sent, was sent nowhere and has not ended, and it goes to a process of that class
+-- a send that is due: its question was put for a class, with the key that is sent,
+-- was sent nowhere and has not ended, and it goes to a process of that class
 pub record IsDueSend (configs : List Configuration) (m : Past) (p q : ℕ) (channel : Option ℕ)
     (key : List ℕ) : Type 0 where
   pub epoch : ℕ
@@ -773,7 +774,8 @@ is_number_some : (k : ℕ) (o : Option ℕ) → is_number k o ≡ true → o ≡
 is_number_some k None e = absurd (cc)
 is_number_some k (Some j) e = ap (λ (i : ℕ). Some i) (sym (equal k j e))
 
--- what a reply of a process that runs says, that its question was sent to that process and has not ended, and that it stands on the question's channel alone
+-- what a reply of a process that runs says, that its question was sent to that process and has not ended,
+-- and that it stands on the question's channel alone
 pub record IsReplied (configs : List Configuration) (m : Past) (k : ℕ) (bytes : List ℕ) (q : ℕ) : Type 0 where
   pub what : What
   pub says : said_by configs m k bytes ≡ Some what
@@ -958,7 +960,8 @@ begins configs now (Begin offset) answer b = carried_untouched configs [] now (B
     (carried_none configs)
 begins configs now event answer b = absurd (cc)
 
--- an induction over legal histories: what is so at first, and stays with each entry whose answer is the next, is so of each
+-- an induction over legal histories: what is so at first,
+-- and stays with each entry whose answer is the next, is so of each
 pub legal_induction : (configs : List Configuration) (P : Past → Type 0) → NamesOnce configs
     → ((x : Noted) → is_begin x.event ≡ true → P (mark configs [] x ∷ []))
     → ((m : Past) (now : ℕ) (event : Event) (answer : Told) → next_at configs m now event ≡ gives answer

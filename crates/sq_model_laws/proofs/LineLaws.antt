@@ -1,4 +1,5 @@
--- What a line in the grammar does on the channels of its process, and where a process is found among those of its class.
+-- What a line in the grammar does on the channels of its process,
+-- and where a process is found among those of its class.
 use Rattle.std.proofs.Common.{◌≡◌, ℕ, zero, suc, ◌<◌, ◌≤◌, max, List, [], ◌∷◌, ◌++◌, map, Bool, true, false, not, ◌&&◌, ◌==◌, nat_le, nat_lt, slice_get, if◌then◌else◌, cond, find, filter, drop, length, length-append, add-one, bytes_eq, Option, Some, None, is_some, refl, sym, ap, ap₂, ◌∙◌, arith}
 use Rattle.std.specs.List.{prefix_len, take_while}
 use Rattle.std.specs.Option.{option_map, option_map_or, option_or, unwrap_or}

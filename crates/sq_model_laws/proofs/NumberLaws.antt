@@ -1,5 +1,5 @@
--- Numbers that were not given have nothing: a question above those that were put, a process above those that were started, a check above those
--- that were asked.
+-- Numbers that were not given have nothing: a question above those that were put,
+-- a process above those that were started, a check above those that were asked.
 use Rattle.std.proofs.Common.{◌≡◌, ℕ, suc, ◌<◌, ◌≤◌, List, [], ◌∷◌, ◌++◌, Bool, true, false, not, ◌&&◌, ◌==◌, nat_le, bytes_eq, if◌then◌else◌, Option, Some, None, is_some, option_to_list, refl, ap, ap₂, ◌∙◌, arith, inl, inr}
 use Rattle.std.specs.Option.{option_or, option_map_or}
 use Rattle.std.proofs.lemmas.Bool.{and_right}

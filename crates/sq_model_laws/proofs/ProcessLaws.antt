@@ -176,7 +176,8 @@ due_started m now f name answer live =
     none true = refl
     none false = refl
 
--- a line that ends its process: a stop of it is due, where it lived and was not told to stop; the others are due as they were
+-- a line that ends its process: a stop of it is due, where it lived and was not told to stop;
+-- the others are due as they were
 pub due_line : (m : Past) (now k : ℕ) (bytes : List ℕ) (answer : Told) (c : Cause) (j : ℕ) → line_end answer ≡ Some c
     → is_line_end (Some c) ≡ true → j ≤ proc_count (entries m)
     → lives_on (entries m) k ≡ true → is_stopped (entries m) k ≡ false

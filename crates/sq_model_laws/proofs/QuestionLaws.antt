@@ -205,7 +205,8 @@ put_at_step configs m n now p is = by (step_is configs m n now)
     by (inl done) = absurd (none-some p (sym (ap (λ (s : StepSays). s.put) done) ∙ is))
     by (inr r) = put_for_need configs m n now p r.needed (sym (ap (λ (s : StepSays). s.put) r.is) ∙ is)
 
--- each question of a history is put at a step of a check that needs its key, where no verdict of it is fresh or a refresh is due, none is pending, and there is room
+-- each question of a history is put at a step of a check that needs its key,
+-- where no verdict of it is fresh or a refresh is due, none is pending, and there is room
 pub put_so : (configs : List Configuration) (m : Past) (now : ℕ) (event : Event) (o : Option Put)
     → (says_at configs m now event).put ≡ o → PutSo configs m now event o
 put_so configs m now event None is = tt

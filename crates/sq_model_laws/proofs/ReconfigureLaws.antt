@@ -1,4 +1,5 @@
--- Classes after a reconfiguration: the new epoch's begin with what is kept of classes that are alike, and the lists of those in the epoch before are empty.
+-- Classes after a reconfiguration: the new epoch's begin with what is kept of classes that are alike,
+-- and the lists of those in the epoch before are empty.
 use Rattle.std.proofs.Common.{◌≡◌, ℕ, suc, ◌-◌, min, List, [], ◌∷◌, Bool, true, false, not, ◌&&◌, ◌==◌, if◌then◌else◌, is_some, refl, ap, ap₂, ◌∙◌, arith}
 use Rattle.std.specs.Option.{option_map_or}
 use Rattle.std.proofs.lemmas.Bool.{and_left}

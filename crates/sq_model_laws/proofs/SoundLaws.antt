@@ -1,4 +1,5 @@
--- Where the answers of a check come from: a step took a verdict that was given and is fresh, or a fault; or the question that the check waited for ended.
+-- Where the answers of a check come from: a step took a verdict that was given and is fresh, or a fault;
+-- or the question that the check waited for ended.
 use Rattle.std.proofs.Common.{◌≡◌, ◌⊎◌, inl, inr, ℕ, List, [], ◌∷◌, Bool, true, false, ◌&&◌, ◌==◌, nat_le, if◌then◌else◌, Option, Some, None, option_to_list, refl, sym, ap, subst, ◌∙◌}
 use Rattle.std.proofs.lemmas.Bool.{and_parts}
 use Rattle.std.proofs.lemmas.Option.{none-some, same_Some}

@@ -1,4 +1,5 @@
--- While a question has not ended, no entry makes a new verdict of its key in the list of its class: a verdict that is found there was found there before.
+-- While a question has not ended, no entry makes a new verdict of its key in the list of its class:
+-- a verdict that is found there was found there before.
 use Rattle.std.proofs.Common.{Bool, List, None, Option, Some, ℕ, [], ap, ap₂, arith, bytes_eq, cond, false, if◌then◌else◌, is_some, nat_le, nat_lt, not, refl, suc, sym, take, true, zero, ◌&&◌, ◌<◌, ◌==◌, ◌∙◌, ◌∷◌, ◌≡◌, ◌≤◌}
 use Rattle.std.specs.Map.{lookup_entry}
 use Rattle.std.specs.Option.{option_map_or, option_or}

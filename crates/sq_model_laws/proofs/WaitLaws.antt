@@ -1,4 +1,5 @@
--- A check that waits for a question needs the key that the question was put for, and nothing fresh is kept of it: a step of it says to wait for that question, puts nothing and takes nothing.
+-- A check that waits for a question needs the key that the question was put for,
+-- and nothing fresh is kept of it: a step of it says to wait for that question, puts nothing and takes nothing.
 use Rattle.std.proofs.Common.{◌≡◌, ◌⊎◌, inl, inr, ℕ, suc, ◌≤◌, ◌-◌, ◌*◌, List, [], ◌∷◌, ◌++◌, append-nil, Bool, true, false, ◌&&◌, ◌==◌, nat_le, nat_lt, length, if◌then◌else◌, Option, Some, None, option_to_list, refl, sym, ap, ap₂, subst, ◌∙◌, arith}
 use Rattle.std.specs.Option.{option_map_or, option_or}
 use Rattle.std.proofs.lemmas.Bool.{and_parts}
@@ -319,7 +320,8 @@ needs_first configs now (Begin offset) answer b = record {
 }
 needs_first configs now event answer b = absurd (cc)
 
--- in a legal history each check that waits needs the key of the question that it waits for, of which no verdict is kept that will be fresh
+-- in a legal history each check that waits needs the key of the question that it waits for,
+-- of which no verdict is kept that will be fresh
 pub waits_needed : (configs : List Configuration) (h : History) → NamesOnce configs → Legal configs h
     → WaitsNeeded configs (marked configs h)
 waits_needed configs h once legal =
@@ -373,7 +375,8 @@ none_later configs (x ∷ f ∷ h) now legal l = (
     through : (a b c : ℕ) → a ≤ b → b ≤ c → a ≤ c
     through a b c l h = omega arith
 
--- in a legal history, a step of a check that waits, at a moment that is none of the past, says to wait for the same question, puts nothing and takes nothing
+-- in a legal history, a step of a check that waits, at a moment that is none of the past,
+-- says to wait for the same question, puts nothing and takes nothing
 pub waiting_says : (configs : List Configuration) (h : History) (n q now : ℕ) → NamesOnce configs → Legal configs h
     → latest h ≤ now → waits_for configs (marked configs h) n ≡ Some q
     → step_says configs (marked configs h) n now ≡ record { answer = told.Waits q; put = None; took = None }

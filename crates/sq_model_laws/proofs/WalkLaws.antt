@@ -373,7 +373,8 @@ alone t p e = by (t p) e
 alone_found : (t : ℕ → Bool) (p : ℕ) → t p ≡ true → list_any t (p ∷ []) ≡ true
 alone_found t p e = ap (λ (b : Bool). b || false) e
 
--- over answers that give a verdict, no place of the walk has a need: what a test finds in the walk is a place without one
+-- over answers that give a verdict, no place of the walk has a need:
+-- what a test finds in the walk is a place without one
 pub walk_answered : (t : ℕ → Bool) (b : Bool) (answers : List Answer) (c : Configuration) (s : Sight) (o : Outcome)
     → verdict_over answers c s ≡ value.Verdict o
     → ((p : ℕ) → is_need (taken_at c s answers p) ≡ false → t p ≡ true → b ≡ true)

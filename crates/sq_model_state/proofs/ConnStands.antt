@@ -1,4 +1,5 @@
--- The state's answers to what connections bring, and the state after it: `open`, `close`, `ask`, and an outcome that is taken.
+-- The state's answers to what connections bring, and the state after it:
+-- `open`, `close`, `ask`, and an outcome that is taken.
 use Rattle.std.proofs.Common.{◌≡◌, ℕ, ℤ, suc, ◌-◌, List, [], ◌∷◌, ◌++◌, Bool, true, false, not, ◌||◌, ◌==◌, nat_le, filter, if◌then◌else◌, Option, Some, None, is_none, is_some, refl, sym, ap, ap₂, ◌∙◌, arith}
 use Rattle.std.specs.Option.{option_map}
 use Rattle.sq_base.specs.Addresses.{Address}

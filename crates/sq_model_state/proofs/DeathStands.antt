@@ -1,4 +1,5 @@
--- The end of a process, by its death or by a line that is outside the grammar or on a free channel: the state after it stands for the history with the event.
+-- The end of a process, by its death or by a line that is outside the grammar or on a free channel:
+-- the state after it stands for the history with the event.
 use Rattle.std.proofs.Common.{◌≡◌, ℕ, List, ◌∷◌, Bool, true, false, not, ◌&&◌, ◌||◌, ◌==◌, nat_le, if◌then◌else◌, Option, Some, None, refl, sym, ap, ap₂, subst, ◌∙◌}
 use Rattle.std.specs.Option.{option_map}
 use Rattle.std.proofs.lemmas.Bool.{and_parts, and_right, leb-false, leb-true}

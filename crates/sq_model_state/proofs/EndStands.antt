@@ -1,4 +1,5 @@
--- What an entry leaves of processes and of epochs that leaves each process as it was: where every epoch lives on, and where some end.
+-- What an entry leaves of processes and of epochs that leaves each process as it was:
+-- where every epoch lives on, and where some end.
 use Rattle.std.proofs.Common.{◌≡◌, ℕ, suc, List, ◌∷◌, Bool, true, false, not, ◌&&◌, ◌||◌, nat_le, if◌then◌else◌, Option, Some, None, is_some, refl, sym, ap, ap₂, ◌∙◌}
 use Rattle.std.specs.Option.{option_and_then, option_map, option_or}
 use Rattle.std.proofs.lemmas.Bool.{and_right}
@@ -25,7 +26,8 @@ use Rattle.sq_model_laws.proofs.StopLaws.{NotStopped}
 use Rattle.sq_model_state.specs.Changes.{if_live, is_over}
 use Rattle.sq_model_state.specs.States.{State, Stands, lives_with, place_of}
 
--- the processes of a history are those of the one before: of the class that they were, ended as they were, and told to stop as they were
+-- the processes of a history are those of the one before: of the class that they were, ended as they were,
+-- and told to stop as they were
 pub record LeavesProcs (h after : History) : Type 0 where
   pub homes_same : (k : ℕ) → home_of after k ≡ home_of h k
   pub ends_same : (k : ℕ) → proc_end after k ≡ proc_end h k

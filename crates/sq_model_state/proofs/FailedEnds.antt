@@ -142,7 +142,8 @@ not_named configs m e c q class once stand at away = by (put_of m q) refl away
         placed p (class_at configs p.epoch p.class) (stand.stand q p is) refl (p.epoch == e) (p.class == c)
         (bytes_eq (name_of_class configs e p.class) class.name) refl refl away refl
 
--- what a failed start gives for a question that has not ended: where no process of the class lives or starts then, the fault of each that waits in its queue
+-- what a failed start gives for a question that has not ended:
+-- where no process of the class lives or starts then, the fault of each that waits in its queue
 pub ends_failed : (configs : List Configuration) (m : Past) (now : ℕ) (answer : Told) (e c : ℕ) (class : Class) (q : ℕ)
     → NamesOnce configs → PutsStand configs m
     → class_at configs e c ≡ Some class → 1 ≤ starting (entries m) e class.name → has_ended configs m q ≡ false

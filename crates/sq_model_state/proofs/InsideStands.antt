@@ -1,4 +1,5 @@
--- A state after an entry that opens, closes and asks nothing and puts nothing: by its checks, epochs and processes, which alone it changes.
+-- A state after an entry that opens, closes and asks nothing and puts nothing:
+-- by its checks, epochs and processes, which alone it changes.
 use Rattle.std.proofs.Common.{◌≡◌, ℕ, ℤ, List, ◌∷◌, Bool, true, false, ◌&&◌, ◌==◌, bytes_eq, if◌then◌else◌, Option, Some, None, refl, sym, ap, ap₂, subst, ◌∙◌}
 use Rattle.std.specs.Option.{option_map}
 use Rattle.std.proofs.lemmas.Bool.{and_parts}

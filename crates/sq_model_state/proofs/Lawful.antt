@@ -1,4 +1,5 @@
--- What every legal history with its marks has that the laws ask for, and what a state that stands for it says of epochs and checks.
+-- What every legal history with its marks has that the laws ask for,
+-- and what a state that stands for it says of epochs and checks.
 use Rattle.std.proofs.Common.{◌≡◌, ℕ, List, [], ◌∷◌, Bool, true, false, ◌||◌, ◌==◌, cond, if◌then◌else◌, slice_get, Option, Some, None, refl, sym, ap, ap₂, ◌∙◌}
 use Rattle.std.specs.List.{find, list_any}
 use Rattle.std.specs.Option.{option_and_then, option_map_or}

@@ -1,4 +1,5 @@
--- Where a process that lives stands: its place, its class, its row and its channels; and what the machine answers to lines and deaths.
+-- Where a process that lives stands: its place, its class, its row and its channels;
+-- and what the machine answers to lines and deaths.
 use Rattle.std.proofs.Common.{◌≡◌, ℕ, List, [], ◌∷◌, find, cond, Bool, true, false, not, ◌&&◌, ◌==◌, bytes_eq, if◌then◌else◌, Option, Some, None, is_none, option_and_then, refl, sym, ap, ap₂, subst, ◌∙◌}
 use Rattle.std.specs.Option.{option_map, option_map_or}
 use Rattle.std.proofs.lemmas.Bool.{and_parts}

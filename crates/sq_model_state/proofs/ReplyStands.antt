@@ -144,7 +144,8 @@ replied_stands configs m s now k bytes q reply p key law st l line asks =
     live : (e : ℕ) → is_live (entries (x ∷ m)) e ≡ is_live (entries m) e
     live e = live_kept configs m x e (served given) (served_asked given) refl checks
 
--- a process replied to a question that is open on its channel: what that is, its class and its key, as the state has them
+-- a process replied to a question that is open on its channel:
+-- what that is, its class and its key, as the state has them
 pub reply_stands : (configs : List Configuration) (m : Past) (s : State) (now k : ℕ) (bytes : List ℕ) (q : ℕ)
     (reply : Reply) (p : ClassId) (class : Class) (channels : Channels) (r : ClassRow) (key : List ℕ)
     → Lawful configs m → Stands configs m s → s.home k ≡ Some p → class_in s p.epoch p.class ≡ Some class

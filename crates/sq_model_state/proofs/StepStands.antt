@@ -1,4 +1,5 @@
--- A step of a check: what the machine answers by its state, and that the state after it stands for the history with the step.
+-- A step of a check: what the machine answers by its state,
+-- and that the state after it stands for the history with the step.
 use Rattle.std.proofs.Common.{◌≡◌, ℕ, suc, List, [], ◌∷◌, find, cond, Bool, true, false, not, ◌||◌, ◌==◌, if◌then◌else◌, Option, Some, None, is_some, refl, sym, ap, ap₂, subst, ◌∙◌}
 use Rattle.std.specs.List.{list_any}
 use Rattle.std.specs.Option.{option_and_then, option_map, option_map_or}

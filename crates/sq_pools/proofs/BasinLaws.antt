@@ -17,7 +17,8 @@ use Rattle.sq_pools.proofs.SeatLaws.{seats_few, seats_less, seats_more, seats_so
 abbrev pub basin : List (ℕ × Generation) → List (ℕ × Sat) → ℕ → ℕ → ℕ → ℕ → Basin
 basin g s n w t a = record { generations = g; seats = s; given = n; newest = w; latest = t; granted = a }
 
--- what holds of pools in the midst of a call: the generation of one epoch may neither be the newest nor have a seat in use
+-- what holds of pools in the midst of a call:
+-- the generation of one epoch may neither be the newest nor have a seat in use
 pub record IsLoose (idle : ℕ) (p : Basin) : Type 0 where
   pub numbers : (n : ℕ) → is_some (seat_in p n) ≡ true → (0 < n) × (n ≤ p.given)
   pub counted : (e : ℕ) → held_at p.generations e ≡ seats_of p.seats e p.given
@@ -528,8 +529,8 @@ is_seated g k j s r n w t u a sat b is rest made filled gone emptied = record {
   made = λ e. left e ∙ ap (kept_if (stays (basin k r (suc n) (max w sat.epoch) u a) e)) (made e);
   buckets = λ e x. retired_filled w k j r (suc n) (max w sat.epoch) u a is emptied e x
       ∙ ap (kept_if (stays (basin k r (suc n) (max w sat.epoch) u a) e)) (filled e x)
-      ∙ kept_inside (stays (basin k r (suc n) (max w sat.epoch) u a) e) _ b.initial (second_at k e u) (second_at j e u) x
-      (filled_at g e x)
+      ∙ kept_inside (stays (basin k r (suc n) (max w sat.epoch) u a) e) _ b.initial (second_at k e u)
+      (second_at j e u) x (filled_at g e x)
       (λ stay. sym (second_same k j e u (left e ∙ ap (λ t. kept_if t (made_at k e)) stay)));
   seats = rest;
   given = refl;

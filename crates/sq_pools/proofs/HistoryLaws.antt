@@ -164,11 +164,12 @@ between (x ∷ later) h e s a b g l p q =
       first = k.first;
       last = rw same at n.1;
       order = omega arith;
-      flows = flows_on s.limit _ _ _ a c.0 b (seconds_split k.made (latest_in h) (latest_in (later ++ h)) x.moment order more)
-          k.flows step;
+      flows = flows_on s.limit _ _ _ a c.0 b
+          (seconds_split k.made (latest_in h) (latest_in (later ++ h)) x.moment order more) k.flows step;
     }
 
--- for every history: between two places from the one to the other of which a bucket lives, it grants at most its level and what was restored
+-- for every history: between two places from the one to the other of which a bucket lives,
+-- it grants at most its level and what was restored
 pub grants_within_levels : (later : List PoolEntry) (h : PoolHistory) (e : ℕ) (s : BucketSpot)
     → AreGrants (later ++ h) → Lives later h e s
     → GrantsWithin later h e s

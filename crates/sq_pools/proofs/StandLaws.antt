@@ -54,8 +54,8 @@ pub until_then : (p : Basin) (h : PoolHistory) (now e : ℕ) (s : BucketSpot) �
     → until h e s now (tally_of h e s) ≡ tally_then p now e s
 until_then p h now e s is stand i =
     rw (sym (stand.buckets_are e s), sym (stand.made_is e))
-    (until_by (bucket_in p e s) (made_in p e) s p.latest (latest_in h) now (filled_made p.generations e s) (is.limits e s)
-    (is.reckoned e s) stand.latest_is i)
+    (until_by (bucket_in p e s) (made_in p e) s p.latest (latest_in h) now (filled_made p.generations e s)
+    (is.limits e s) (is.reckoned e s) stand.latest_is i)
 
 -- seats and generations
 
@@ -418,7 +418,8 @@ moment_is p h now stand i = let low = stand.latest_is in omega arith
 chosen_by : (initial epoch e now : ℕ) (s : BucketSpot) (b t h a : Bool) (m : Option ℕ) (o : Option Filled)
     → (is_some o ≡ true → is_some m ≡ true)
     → shown (at (kept_if b (made_if t now m)) now)
-    (kept_if b (filled_if (t && (h || (is_none m && a))) (opened_in initial (at (kept_if b (made_if t now m)) now) s) o))
+    (kept_if b (filled_if (t && (h || (is_none m && a)))
+    (opened_in initial (at (kept_if b (made_if t now m)) now) s) o))
     ≡ kept_if (is_some (kept_if b (made_if t now m))) (option_map (drawn 0)
     (opened_if ((is_none m && a) || (t && h)) (opened_at initial s.limit) (shown (at m now) o)))
 chosen_by initial epoch e now s false t h a m o there = refl

@@ -3,8 +3,8 @@ use Rattle.std.specs.Prelude.{◌≡◌, ℕ, ◌≤◌, Some, min}
 use Rattle.sq_machine.specs.PoolReadings.{BucketSpot, PoolEntry, PoolEvent, PoolHistory, Sat, current_in, granted_of, in_use, kept_if, latest_in, made_of, seat_count, seat_of, tally_of}
 use Rattle.sq_pools.specs.Basins.{Basin, granted_limit, made_in, seat_in, tally_then}
 
--- the pools stand for a history of what happened to them, whose moments may be later than theirs; no
--- seat in use is of an epoch that has not begun
+-- the pools stand for a history of what happened to them, whose moments may be later than theirs;
+-- no seat in use is of an epoch that has not begun
 pub record PoolsStand (p : Basin) (h : PoolHistory) : Type 0 where
   pub made_is : (e : ℕ) → made_in p e ≡ made_of h e
   pub buckets_are : (e : ℕ) (s : BucketSpot) → tally_then p (latest_in h) e s ≡ tally_of h e s

@@ -17,7 +17,8 @@ notice_line n = count (codes "notice ") n.line ++ 32 ∷ [] ++ n.directive ++ 10
 -- `ok acls A rules R classes C pools P`: what a file states, and not what is made for look-ups
 abbrev pub counts_line : Configuration → List ℕ
 counts_line c =
-    count (codes "ok acls ") (stated_acls c.dst_lookup c.acls) ++ count (codes " rules ") (length c.rules)
+    count (codes "ok acls ") (stated_acls c.dst_lookup c.acls)
+    ++ count (codes " rules ") (length c.rules)
     ++ count (codes " classes ") (stated_classes c.dst_lookup c.classes)
     ++ count (codes " pools ") (length c.pools) ++ 10 ∷ []
 

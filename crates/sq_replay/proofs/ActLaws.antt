@@ -1,4 +1,5 @@
--- The acts after an entry: each lowers what is due, so that they come to an end, and what stays with each act stays with all.
+-- The acts after an entry: each lowers what is due, so that they come to an end,
+-- and what stays with each act stays with all.
 use Rattle.std.proofs.Common.{◌≡◌, ℕ, zero, suc, ◌+◌, ◌<◌, ◌≤◌, List, [], ◌∷◌, ◌++◌, length, map, Option, Some, None, refl, sym, ap, ap₂, subst, ◌∙◌, arith}
 use Rattle.std.specs.List.{flat_map}
 use Rattle.std.specs.Option.{option_map_or}

@@ -63,7 +63,8 @@ latest_by v configs h now is = let greatest : v.latest ≡ latest h = is.latest_
 pub pools_moment : (v : ScriptView) (configs : List Configuration) (h : History) (now : ℕ) → Is v configs h
     → max (max now v.latest) v.pools.addressed.latest ≡ max now v.latest
 pools_moment v configs h now is = moment_is v.pools.addressed (pool_history Addressed configs (marked configs h))
-    (max now v.latest) is.pools.addressed (late_kind Addressed configs h (max now v.latest) (latest_by v configs h now is))
+    (max now v.latest) is.pools.addressed
+    (late_kind Addressed configs h (max now v.latest) (latest_by v configs h now is))
 
 pub tags_moment : (v : ScriptView) (configs : List Configuration) (h : History) (now : ℕ) → Is v configs h
     → max (max now v.latest) v.pools.tagged.latest ≡ max now v.latest

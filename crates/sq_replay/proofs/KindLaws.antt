@@ -141,6 +141,6 @@ apart_kinds configs (x ∷ m) n used =
     let t = pool_history Tagged configs m in
     let e = pool_event Tagged configs m x.entry.event x.entry.answer in
     ap (λ (k : ℕ). in_use_after n e (is_some (numbered n k (sat_at e))) (in_use t n)) (even configs m)
-    ∙ apart_by (pool_event Addressed configs m x.entry.event x.entry.answer) e n (seat_count p) (in_use p n) (in_use t n)
-    (beside configs m x.entry.event x.entry.answer) (apart_kinds configs m n) (unborn p n)
+    ∙ apart_by (pool_event Addressed configs m x.entry.event x.entry.answer) e n (seat_count p) (in_use p n)
+    (in_use t n) (beside configs m x.entry.event x.entry.answer) (apart_kinds configs m n) (unborn p n)
     (λ low. unborn t n (subst (λ (k : ℕ). k < n) (sym (even configs m)) low)) used

@@ -78,7 +78,8 @@ tags_unversioned : (c : Configuration) (s : Sight) (answers : List Answer) (plac
     → first_tag (tag_at c (unversioned_sight s) answers) places ≡ first_tag (tag_at c s answers) places
 tags_unversioned c s answers [] = refl
 tags_unversioned c s answers (place ∷ places) =
-    ap (λ o. option_or o (first_tag (tag_at c (unversioned_sight s) answers) places)) (tag_unversioned c s answers place)
+    ap (λ o. option_or o (first_tag (tag_at c (unversioned_sight s) answers) places))
+    (tag_unversioned c s answers place)
     ∙ ap (option_or (tag_at c s answers place)) (tags_unversioned c s answers places)
 
 place_unversioned : (c : Configuration) (s : Sight) (answers : List Answer)
@@ -86,7 +87,8 @@ place_unversioned : (c : Configuration) (s : Sight) (answers : List Answer)
 place_unversioned c s answers =
     ap (λ taken. place_in c.pools (first_tag (tag_at c (unversioned_sight s) answers) (rules_walk taken c.acls c.rules))
     (pool_of c (unversioned_sight s))) (taken_unversioned c s answers)
-    ∙ ap (λ o. place_in c.pools o (pool_of c (unversioned_sight s))) (tags_unversioned c s answers (walk_over answers c s))
+    ∙ ap (λ o. place_in c.pools o (pool_of c (unversioned_sight s)))
+    (tags_unversioned c s answers (walk_over answers c s))
     ∙ ap (λ taken. place_in c.pools (tag_of c s answers) (pool_from taken c.acls s.addr 0 c.pools))
     (taken_unversioned c s [])
 
@@ -176,12 +178,12 @@ taken_making v t riders now n conn r basin known promised own noted =
     by : (configs : List Configuration) (h : History) → Is v configs h → (k : Held) → held_at n v.state.checks ≡ Some k
         → k.asked.conn ≡ conn → (c : ℕ)
         → Rides configs (allowed_of (entry_at (max now v.latest) (Take n) (told.Judged r.epoch r.outcome) ∷ h) c)
-        (taken_answers configs (marked configs (entry_at (max now v.latest) (Take n) (told.Judged r.epoch r.outcome) ∷ h))
-        c) (riders c)
+        (taken_answers configs
+        (marked configs (entry_at (max now v.latest) (Take n) (told.Judged r.epoch r.outcome) ∷ h)) c) (riders c)
     by configs h is k found same c =
         subst (Rides configs (allowed_of (entry_at (max now v.latest) (Take n) (told.Judged r.epoch r.outcome) ∷ h) c)
-        (taken_answers configs (marked configs (entry_at (max now v.latest) (Take n) (told.Judged r.epoch r.outcome) ∷ h))
-        c))
+        (taken_answers configs
+        (marked configs (entry_at (max now v.latest) (Take n) (told.Judged r.epoch r.outcome) ∷ h)) c))
         (ap (λ (d : ℕ). if c == d then (if r.outcome.allow then Some (rider_of r) else None) else v.riders c) same
         ∙ sym (noted c))
         (riders_taken v configs h (max now v.latest) n r.epoch r.outcome k.asked (rider_of r) is
@@ -190,8 +192,8 @@ taken_making v t riders now n conn r basin known promised own noted =
 
     rides : (configs : List Configuration) (h : History) → Is v configs h → (c : ℕ)
         → Rides configs (allowed_of (entry_at (max now v.latest) (Take n) (told.Judged r.epoch r.outcome) ∷ h) c)
-        (taken_answers configs (marked configs (entry_at (max now v.latest) (Take n) (told.Judged r.epoch r.outcome) ∷ h))
-        c) (riders c)
+        (taken_answers configs
+        (marked configs (entry_at (max now v.latest) (Take n) (told.Judged r.epoch r.outcome) ∷ h)) c) (riders c)
     rides configs h is c = let k = map_some (λ (z : Held). z.asked.conn) (held_at n v.state.checks) conn known in
         by configs h is k.0 k.1 (sym k.2) c
 

@@ -184,7 +184,8 @@ lines_keep files configs P Q is stays h number place (l ∷ ls) p =
     lines_keep files configs P Q is stays t (number + 1) (place + length l.bytes + 1) ls
     (stays l ls h r.now r.event t r.states r.step p))
 
--- what is so as the machine begins, whatever its moment and its offset, and whether its first line is run or says where it begins
+-- what is so as the machine begins, whatever its moment and its offset,
+-- and whether its first line is run or says where it begins
 pub record IsSoAtFirst (configs : List Configuration) (P : List SourceLine → History → Type 0)
     (ls : List SourceLine) : Type 0 where
   pub first : (now : ℕ) (offset : ℤ) → P ls (begun_history configs now offset)

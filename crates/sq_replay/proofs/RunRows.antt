@@ -96,7 +96,8 @@ denying = record {
   notices = [];
 }
 
--- a check goes on under its own epoch; the stop of its process is due as it is taken, and a line of that process comes to nothing then
+-- a check goes on under its own epoch; the stop of its process is due as it is taken,
+-- and a line of that process comes to nothing then
 pub old_check : runs (asking 0 0 ∷ denying ∷ [])
     (at 0 (Open 1 (v4 167838211) 4000) ∷ at 0 (Ask 1 (codes "GET") (codes "http://a.example/") []) ∷ at 0 (Step 1) ∷
     at 0 (Started 1 (codes "v")) ∷ at 10 (Reconfigure []) ∷ at 20 (Line 1 (codes "OK"))

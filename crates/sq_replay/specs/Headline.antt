@@ -55,8 +55,8 @@ pub record IsTrue (configs : List Configuration) (h : History) : Type 0 where
   -- each outcome is the verdict of the configuration current when its check began, over what it saw
   -- and answers that have their sources
   pub faithful : IsFaithful configs (marked configs h)
-  -- of pools of either kind, between any two places between which it lives without a break no bucket
-  -- grants more than its level and what was restored
+  -- of pools of either kind, between any two places between which it lives without a break no
+  -- bucket grants more than its level and what was restored
   pub granted : (kind : PoolKind) → AreWithinLevels (pool_history kind configs (marked configs h))
   -- and at each place the books balance
   pub balanced : (kind : PoolKind) → AreBalanced (pool_history kind configs (marked configs h))

@@ -45,8 +45,8 @@ held_for n (Some s) other = Some (held.ByAddress n)
 held_for n None (Some s) = Some (held.ByTag n)
 held_for n None None = None
 
--- what holds of pools of both kinds: each is so by itself, they gave the same numbers, and none is in
--- use in both
+-- what holds of pools of both kinds: each is so by itself, they gave the same numbers, and none is
+-- in use in both
 pub record AreBasins (p : BothPools) : Type 0 where
   pub addressed : IsBasin p.addressed
   pub tagged : IsBasin p.tagged

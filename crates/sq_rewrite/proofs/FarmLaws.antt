@@ -1,5 +1,5 @@
--- The farm of a rewriter after some calls is as the calls alone tell it: how many processes and starts there are, and which
--- question is on which channel.
+-- The farm of a rewriter after some calls is as the calls alone tell it:
+-- how many processes and starts there are, and which question is on which channel.
 use Rattle.std.proofs.Common.{◌≡◌, ◌∙◌, ◌==◌, ◌&&◌, ◌<◌, ◌-◌, Bool, true, false, ℕ, suc, List, [], ◌∷◌, length, drop, map, max, Option, None, Some, if◌then◌else◌, is_some, nat_le, nat_lt, refl, ap, sym, subst, arith}
 use Rattle.std.specs.List.{prefix_len, take_while}
 use Rattle.std.specs.Option.{option_map}
@@ -282,12 +282,12 @@ farm_written c s h k line (got.Reply q reply) f e = farm_replied c s (after (Wro
     line reply refl refl refl refl f
 farm_written c s h k line got.Bad f e =
     let at = heard_lives k s line got.Bad e in
-    farm_ended c s (after (Wrote k line got.Bad) s) h (Wrote k line got.Bad ∷ h) k at.process at.found refl refl refl refl
-    refl refl (λ j ch. refl) f
+    farm_ended c s (after (Wrote k line got.Bad) s) h (Wrote k line got.Bad ∷ h) k at.process at.found
+    refl refl refl refl refl refl (λ j ch. refl) f
 farm_written c s h k line got.Stray f e =
     let at = heard_lives k s line got.Stray e in
-    farm_ended c s (after (Wrote k line got.Stray) s) h (Wrote k line got.Stray ∷ h) k at.process at.found refl refl refl
-    refl refl refl (λ j ch. refl) f
+    farm_ended c s (after (Wrote k line got.Stray) s) h (Wrote k line got.Stray ∷ h) k at.process at.found
+    refl refl refl refl refl refl (λ j ch. refl) f
 
 -- each call keeps it
 farm_after : (c : Class) (s : RewriteState) (h : Calls) (e : Call) → IsFarmOf c s h → Answers e s
@@ -303,7 +303,8 @@ farm_after c s h StartFailed f i =
 farm_after c s h (Wrote k line g) f i = farm_written c s h k line g f i
 farm_after c s h (Died k) f i =
     let at = died_lives k s i in
-    farm_ended c s (after (Died k) s) h (Died k ∷ h) k at.process at.found refl refl refl refl refl refl (λ j ch. refl) f
+    farm_ended c s (after (Died k) s) h (Died k ∷ h) k at.process at.found
+    refl refl refl refl refl refl (λ j ch. refl) f
 farm_after c s h (Took q w) f i = farm_kept c s (after (Took q w) s) h (Took q w ∷ h) refl refl refl f.starts_are refl
     (λ j ch. refl) f
 

@@ -1,4 +1,5 @@
--- The process of a number, and the question on each of its channels, before and after a send, a reply, an end and a start.
+-- The process of a number, and the question on each of its channels,
+-- before and after a send, a reply, an end and a start.
 use Rattle.std.proofs.Common.{◌≡◌, ◌∙◌, ◌==◌, ◌<◌, ◌-◌, Bool, true, false, ℕ, zero, suc, List, [], ◌∷◌, length, map, max, replicate, Option, None, Some, if◌then◌else◌, is_some, nat_lt, refl, ap, sym, arith}
 use Rattle.std.proofs.lemmas.Bool.Decides.{nat_tests}
 use Rattle.std.proofs.lemmas.List.{length-replicate}
@@ -320,7 +321,8 @@ none_without k [] e = refl
 none_without k (r ∷ rows) e = by (k == r.number) e (none_without k rows)
   where
     by : (b : Bool) → (if b then Some r.process else find_proc k rows) ≡ None
-        → (find_proc k rows ≡ None → without k rows ≡ rows) → (if b then without k rows else r ∷ without k rows) ≡ r ∷ rows
+        → (find_proc k rows ≡ None → without k rows ≡ rows)
+        → (if b then without k rows else r ∷ without k rows) ≡ r ∷ rows
     by true f g = absurd cc
     by false f g = ap (λ l. r ∷ l) (g f)
 

@@ -207,7 +207,8 @@ about_after r q (Acted (act.Send k p channel text)) s on a = a
 about_after r q (Acted act.Start) s on a = a
 about_after r q (Started k) s on a = a
 about_after r q StartFailed s on a = about_lost r q (failed s.stock).losses s.rows a
-about_after r q (Wrote k line g) s on a = about_lost r q (after_got k g s.stock).losses (rows_after g s.rows) (about_written r q g s.rows a)
+about_after r q (Wrote k line g) s on a =
+    about_lost r q (after_got k g s.stock).losses (rows_after g s.rows) (about_written r q g s.rows a)
 about_after r q (Died k) s on a = about_lost r q (ended cause.Died k s.stock).losses s.rows a
 about_after r q (Took p w) s on a = absurd cc
 

@@ -21,8 +21,8 @@ same_channel (Some m) (Some n) = m == n
 
 -- a send puts its question on its channel
 abbrev pub once_put : ℕ → Option ℕ → RewriteAct → Option ℕ → Option ℕ
-once_put k channel (act.Send p q other text) o = if (k == p) && same_channel channel other then Some q
-    else o
+once_put k channel (act.Send p q other text) o = if (k == p) && same_channel channel other
+    then Some q else o
 once_put k channel (act.Stop p) o = o
 once_put k channel act.Start o = o
 

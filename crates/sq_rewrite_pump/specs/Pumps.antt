@@ -8,9 +8,9 @@ use Rattle.sq_rewrite_pump.specs.declared.turns.RewriterTurn.{RewriterTurn}
 use Rattle.sq_rewrite_pump.specs.declared.turns.StartedHalves.{StartedHalves}
 use Rattle.sq_rewrite_pump.specs.declared.unread.UnreadHalf.{UnreadHalf}
 
--- what its rewriter tells; the words of the program; of the spawner: the words of the starts that were
--- made, where they are told, and how often it failed; the halves of processes that are written to,
--- those that are read and that no keeper has, for how many more of these there is room, and the
+-- what its rewriter tells; the words of the program; of the spawner: the words of the starts that
+-- were made, where they are told, and how often it failed; the halves of processes that are written
+-- to, those that are read and that no keeper has, for how many more of these there is room, and the
 -- process that an earlier turn started and could not note
 pub record RewritePumpView (P Q : Type 0) : Type 0 where
   pub told : Option RewriteState

@@ -8,8 +8,8 @@ use Rattle.sq_rewrite.specs.declared.acts.RewriteAct.{RewriteAct}
 use Rattle.sq_rewrite.specs.declared.faults.RewriteFault.{RewriteFault}
 
 -- where its state is told it goes on being told, and this holds of what it was and is
-abbrev pub Tells : (RewriteState → RewriteState → Type 0) → Option RewriteState → Option RewriteState
-    → Type 0
+abbrev pub Tells : (RewriteState → RewriteState → Type 0) → Option RewriteState
+    → Option RewriteState → Type 0
 Tells Went None new = new ≡ None
 Tells Went (Some before) new = (now : RewriteState) × (new ≡ Some now) × Went before now
 

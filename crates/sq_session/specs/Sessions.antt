@@ -55,8 +55,8 @@ pub record Answers (r : HttpRequest) (addr : Address) (rest : List ℕ) (front :
   pub answers : List FrontAnswer
   pub told : (list : List FrontAnswer) → front.stood list → front.stands (list ++ answers)
   pub judges : JudgesOf r answers
-  pub goes : Goes (is_connect r) (asked r addr rest answers) [] (held_seat answers) links dialled_now
-      failed ended
+  pub goes : Goes (is_connect r) (asked r addr rest answers) [] (held_seat answers) links
+      dialled_now failed ended
 
 -- a turn of a session: what its input begins with and what follows that, the answers that the front
 -- gave, the origin's part, what was written to the client, the dial that came back, what was

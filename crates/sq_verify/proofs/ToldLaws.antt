@@ -1,4 +1,5 @@
--- The text of a history whose entries are values of their types and whose lines are within the limits: each line is read back as its entry.
+-- The text of a history whose entries are values of their types and whose lines are within the limits:
+-- each line is read back as its entry.
 use Rattle.std.proofs.Common.{◌≡◌, ℕ, ◌+◌, ◌<◌, ◌≤◌, List, [], ◌∷◌, ◌++◌, length, length-append, true, false, ◌&&◌, nat_le, nat_eq, bytes_eq, codes, decimal, All, Option, Some, None, Ok, Err, refl, ap, ◌∙◌, arith, option_map}
 use Rattle.std.proofs.lemmas.Bool.Decides.{nat_tests}
 use Rattle.std.proofs.lemmas.Fmt.{decimal_is_IsNumeral}
@@ -31,8 +32,8 @@ abbrev pub start_of : Version → ℕ
 start_of version.One = 0
 start_of version.Two = length version_line
 
--- the line of an entry behind this history is one line, and not the one that tells version 2; it is read back as that entry, and is within the
--- limits where it stands
+-- the line of an entry behind this history is one line, and not the one that tells version 2;
+-- it is read back as that entry, and is within the limits where it stands
 pub record IsTold (v : Version) (h : History) (e : Noted) : Type 0 where
   pub one_line : NoEnd (line_in v h e)
   pub plain : bytes_eq (line_in v h e) (codes "journal 2") ≡ false

@@ -153,8 +153,8 @@ pub record GoesOn (w : ScriptView) (v : Version) (left : Option (List ℕ))
   pub ahead : AreAhead v configs history (lines bytes)
   pub same : judged_lines v configs history place (lines bytes) ≡ whole
 
--- where a journal was judged to: how many entries, the epoch of the newest, and the bytes before the
--- next line
+-- where a journal was judged to: how many entries, the epoch of the newest, and the bytes before
+-- the next line
 pub record JournalSpot : Type 0 where
   pub count : ℕ
   pub epoch : ℕ

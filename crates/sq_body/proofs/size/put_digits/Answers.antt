@@ -9,7 +9,8 @@ loop-at-preserved c =
     let l = c.loop-at in
     let inside : l.at - 1 < length l.line = omega (arith, c.loop-at-test.true, l.invariant.0, l.invariant.1) in
     let one : l.at - 1 + 1 ≡ l.at = omega (arith, c.loop-at-test.true) in
-    let written = drop-set l.line (l.at - 1) c.hex_digit.result inside ∙ ap (λ i. c.hex_digit.result ∷ drop i l.line) one
+    let written = drop-set l.line (l.at - 1) c.hex_digit.result inside
+    ∙ ap (λ i. c.hex_digit.result ∷ drop i l.line) one
     ∙ ap (λ d. d ∷ drop l.at l.line) c.hex_digit.ensures in (
       omega (arith, l.invariant.0),
       length-set l.line (l.at - 1) c.hex_digit.result ∙ l.invariant.1,

@@ -9,9 +9,9 @@ use Rattle.sq_dst.proofs.answering.answer_lines.Goals as goal
 pub loop-init : goal.loop-init
 loop-init g c =
     record {
-      read = none_read c.args.config.now (g.Q.Resolver.names c.args.resolver.now) (g.Q.Resolver.faults c.args.resolver.now)
-          c.args.proc (g.S.Source.left c.args.from.now) (g.K.LineDesk.handed c.args.desk.now) c.in-Ok.line
-          c.in-Ok.ensures;
+      read = none_read c.args.config.now (g.Q.Resolver.names c.args.resolver.now)
+          (g.Q.Resolver.faults c.args.resolver.now) c.args.proc (g.S.Source.left c.args.from.now)
+          (g.K.LineDesk.handed c.args.desk.now) c.in-Ok.line c.in-Ok.ensures;
       names = refl;
       looks = omega arith;
       faults = refl;
@@ -22,18 +22,21 @@ loop-init g c =
 pub returns-in-Err-clause-lines : goal.returns-in-Err-clause-lines
 returns-in-Err-clause-lines g c =
     failed_read c.args.config.now (g.Q.Resolver.names c.args.resolver.now) (g.Q.Resolver.faults c.args.resolver.now)
-    (g.Q.Resolver.faults c.loop.resolver) c.args.proc _ (g.S.Source.left c.loop.from) (g.S.Source.left c.read.new.self) _
-    (g.K.LineDesk.handed c.loop.desk) (g.K.LineDesk.handed c.died.new.self) c.loop.line
+    (g.Q.Resolver.faults c.loop.resolver) c.args.proc _ (g.S.Source.left c.loop.from)
+    (g.S.Source.left c.read.new.self) _ (g.K.LineDesk.handed c.loop.desk)
+    (g.K.LineDesk.handed c.died.new.self) c.loop.line
     c.loop.invariant.read c.in-Err.ensures.bytes c.died.ensures.handed
 
 pub returns-in-Err-clause-found : goal.returns-in-Err-clause-found
 returns-in-Err-clause-found g c =
     lines_told c.args.config.now (g.Q.Resolver.names c.args.resolver.now) (g.Q.Resolver.faults c.args.resolver.now)
-    (g.Q.Resolver.faults c.loop.resolver) c.args.proc (g.S.Source.left c.args.from.now) (g.S.Source.left c.read.new.self)
-    (g.K.LineDesk.handed c.args.desk.now) (g.K.LineDesk.handed c.died.new.self) ReadFault
+    (g.Q.Resolver.faults c.loop.resolver) c.args.proc (g.S.Source.left c.args.from.now)
+    (g.S.Source.left c.read.new.self) (g.K.LineDesk.handed c.args.desk.now)
+    (g.K.LineDesk.handed c.died.new.self) ReadFault
     (failed_read c.args.config.now (g.Q.Resolver.names c.args.resolver.now) (g.Q.Resolver.faults c.args.resolver.now)
-    (g.Q.Resolver.faults c.loop.resolver) c.args.proc _ (g.S.Source.left c.loop.from) (g.S.Source.left c.read.new.self) _
-    (g.K.LineDesk.handed c.loop.desk) (g.K.LineDesk.handed c.died.new.self) c.loop.line
+    (g.Q.Resolver.faults c.loop.resolver) c.args.proc _ (g.S.Source.left c.loop.from)
+    (g.S.Source.left c.read.new.self) _ (g.K.LineDesk.handed c.loop.desk)
+    (g.K.LineDesk.handed c.died.new.self) c.loop.line
     c.loop.invariant.read c.in-Err.ensures.bytes c.died.ensures.handed)
 
 pub returns-in-Ok-eq0-clause-lines : goal.returns-in-Ok-eq0-clause-lines

@@ -3,7 +3,8 @@ use Rattle.sq_epochs.specs.EpochStates.{new_part}
 use Rattle.sq_epochs.specs.Reconfigured.{begun_part, kept_alike, left_epoch}
 use Rattle.sq_epochs.proofs.epoch.inherit_parts.Given as goal
 
--- the classes so far have what was kept of the epoch before, the others are new, and the epoch before is without what was taken
+-- the classes so far have what was kept of the epoch before, the others are new,
+-- and the epoch before is without what was taken
 abbrev pub invariant-loop-place : goal.invariant-loop-place
 invariant-loop-place l = record {
   parts_are : l.parts ≡ map (begun_part (kept_alike l.initial.before)) (take l.place l.classes)

@@ -1,4 +1,5 @@
--- that the parts of the net, the desk and the books cross threads, one after the other: as one search it would be too long
+-- that the parts of the net, the desk and the books cross threads, one after the other:
+-- as one search it would be too long
 use Rattle.std.proofs.Common.{rules}
 use Rattle.sq_helper_threads.proofs.pumping.pump_all.Goals as goal
 

@@ -17,6 +17,7 @@ returns-in_ok-open-in-Some-Some c = λ s.
     let first : slice_get (bucket_pairs c.args.pool.now) 0 ≡ Some (Some c.in-Some-Some.limit) =
     rw (← c.bucket_pairs.ensures) (sym c.in-Some-Some.ensures.value ∙ ap (λ o. Some o) c.in-Some-Some.field-0-is) in
     let one : has_spot (c.of_host-spot.result ∷ []) s ≡ is_aggregate_of c.args.place c.args.pool.now s =
-    rw c.of_host-spot.ensures (or_no _ ∙ sym (aggregate_is c.args.place c.args.pool.now c.in-Some-Some.limit s first)) in
+    rw c.of_host-spot.ensures
+    (or_no _ ∙ sym (aggregate_is c.args.place c.args.pool.now c.in-Some-Some.limit s first)) in
     c.in_ok-open-in-Some-Some.ensures.ok s
     ∙ ap (λ b. filled_if b (opened_in c.args.initial 0 s) (bucket_at c.args.buckets.now s)) one

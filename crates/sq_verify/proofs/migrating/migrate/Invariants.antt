@@ -7,7 +7,8 @@ use Rattle.sq_verify.specs.Migrating.{ReadSoFar, read_journal}
 use Rattle.sq_verify.specs.Promised.{StaysKnown}
 use Rattle.sq_verify.proofs.migrating.migrate.Given as goal
 
--- the lines so far are written as entries, or are on the page, what is left gives the whole with them, and no read or write failed
+-- the lines so far are written as entries, or are on the page, what is left gives the whole with them,
+-- and no read or write failed
 abbrev pub invariant-lines : goal.invariant-lines
 invariant-lines g l =
     let left = g.S.Source.left in

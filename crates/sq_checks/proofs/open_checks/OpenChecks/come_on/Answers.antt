@@ -48,6 +48,7 @@ returns-clause-come g c =
     ap (λ z. value_at z c.args.number)
     ((c.get_mut.follows.holds y).0 ∙ ap (set_value (is_at (nat_cmp c.args.number)) es) c.come_to.ensures.same.3
     ∙ set_changed c.args.number (looked c.come_to.ensures.same.0) x es (sorted_once es c.in-Some.ensures.ordered) here)
-    ∙ value_changed c.args.number (looked c.come_to.ensures.same.0) x es here ∙ ap Some (sym c.come_to.ensures.same.3) in
+    ∙ value_changed c.args.number (looked c.come_to.ensures.same.0) x es here
+    ∙ ap Some (sym c.come_to.ensures.same.3) in
     ok_then c.come_to.result (HasCome y) (λ v. IfSome (value_at _ c.args.number) (λ k. HasCome k v))
     (λ v h. subst (λ z. IfSome z (λ k. HasCome k v)) (sym found) h) c.come_to.ensures.come

@@ -11,7 +11,8 @@ pub returns : goal.returns
 returns c =
     let es = c.self.inside.map.entries in
     let name = c.args.rule.now.name in
-    let key : name ≡ str_to_ascii_lowercase name = same_text name (str_to_ascii_lowercase name) (sym c.requires.lower) in
+    let key : name ≡ str_to_ascii_lowercase name =
+    same_text name (str_to_ascii_lowercase name) (sym c.requires.lower) in
     let here : standing_at es (str_to_ascii_lowercase c.args.rule.now.name) ≡ Some c.in-Some.standing.now =
     ap (standing_at es) (sym key) ∙ sym c.in-Some.ensures.value in
     let there = ap is_some (sym c.in-Some.ensures.value) in

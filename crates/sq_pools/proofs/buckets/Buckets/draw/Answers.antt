@@ -17,7 +17,8 @@ pub unreachable-requires : goal.unreachable-requires
 unreachable-requires c =
     let here : bucket_at c.self.inside.map.entries c.args.spot.now ≡ None =
     found _ _ spot_key c.args.spot.now c.self.inside.map.entries ∙ sym c.in-None.ensures.value in
-    let there : is_some (bucket_at c.self.inside.map.entries c.args.spot.now) ≡ true = rw c.self.view_is c.requires.there in
+    let there : is_some (bucket_at c.self.inside.map.entries c.args.spot.now) ≡ true =
+    rw c.self.view_is c.requires.there in
     not_missing _ here there
 
 pub returns : goal.returns

@@ -5,8 +5,8 @@ use Rattle.sq_pools.proofs.generations.Generations.enter_new.Goals as goal
 
 pub returns-clause-made : goal.returns-clause-made
 returns-clause-made c =
-    begun_made c.args.epoch c.args.now c.enter.new.self c.args.self.now c.put.new.self c.requires.free c.in_ok-put.ensures.ok
-    (c.enter.ensures.made ∙ c.in_ok-generation.ensures.made)
+    begun_made c.args.epoch c.args.now c.enter.new.self c.args.self.now c.put.new.self c.requires.free
+    c.in_ok-put.ensures.ok (c.enter.ensures.made ∙ c.in_ok-generation.ensures.made)
 
 pub returns-clause-held : goal.returns-clause-held
 returns-clause-held c =

@@ -138,5 +138,6 @@ returns-in-Ok-choose_tag-clause-making c =
     })) c.args.now (event.Seat c.args.conn) (Ok (told.Seat c.in-Ok-choose_tag.seat c.in-ByTag.pool)))
     c.self.view_is
     (tagged_at (machine_of m) c.choose_tag.new.self c.args.now c.later-moment.result c.args.conn c.in-Ok-choose_tag.seat
-    c.in-ByTag.pool c.in-ByTag.tag r c.later-moment.ensures c.facts.ensures rides c.in-ByTag.is c.in-Ok-choose_tag.ensures.number
-    c.in-Ok-choose_tag.ensures.few c.in-Ok-choose_tag.ensures.chosen c.in-Ok-choose_tag.ensures.passed)
+    c.in-ByTag.pool c.in-ByTag.tag r c.later-moment.ensures c.facts.ensures rides c.in-ByTag.is
+    c.in-Ok-choose_tag.ensures.number c.in-Ok-choose_tag.ensures.few
+    c.in-Ok-choose_tag.ensures.chosen c.in-Ok-choose_tag.ensures.passed)

@@ -11,7 +11,8 @@ invariant_of-self-in-Some-ByAddress c =
     let k = c.args.number in
     let p : BothPools = record { addressed = c.self.inside.pools; tagged = c.self.inside.tags } in
     let q : BothPools = record { addressed = c.leave.new.self; tagged = c.self.inside.tags } in
-    let h = held_addressed es p k c.in-Some-ByAddress.seat c.self.invariant (ap Some (sym c.in-Some-ByAddress.field-0-is) ∙ c.in-Some-ByAddress.ensures.value) in
+    let h = held_addressed es p k c.in-Some-ByAddress.seat c.self.invariant
+    (ap Some (sym c.in-Some-ByAddress.field-0-is) ∙ c.in-Some-ByAddress.ensures.value) in
     held_less es c.remove.new.self.entries p q k c.self.invariant c.remove.ensures.updates.0
     (subst (λ (x : ℕ). (n : ℕ) → seat_in q.addressed n ≡ (if n == x then None else seat_in p.addressed n)) h.number_is
     c.leave.ensures.seats)
@@ -23,7 +24,8 @@ invariant_of-self-in-Some-ByTag c =
     let k = c.args.number in
     let p : BothPools = record { addressed = c.self.inside.pools; tagged = c.self.inside.tags } in
     let q : BothPools = record { addressed = c.self.inside.pools; tagged = c.leave-in-Some-ByTag.new.self } in
-    let h = held_tagged es p k c.in-Some-ByTag.seat c.self.invariant (ap Some (sym c.in-Some-ByTag.field-0-is) ∙ c.in-Some-ByTag.ensures.value) in
+    let h = held_tagged es p k c.in-Some-ByTag.seat c.self.invariant
+    (ap Some (sym c.in-Some-ByTag.field-0-is) ∙ c.in-Some-ByTag.ensures.value) in
     held_less es c.remove.new.self.entries p q k c.self.invariant c.remove.ensures.updates.0
     (left_alone p.addressed k (not_addressed es p k c.self.invariant h.used))
     (subst (λ (x : ℕ). (n : ℕ) → seat_in q.tagged n ≡ (if n == x then None else seat_in p.tagged n)) h.number_is

@@ -40,7 +40,8 @@ invariant_of-self-2 c =
           (grind (arith, common_steps, c.push_reserved-2.ensures.items, c.reserve-3.ensures.items))
           (grind (arith, common_steps, c.is_slow-asks.ensures)) more;
       count_is = unmade_acls_push old new acl c.self.inside.unmade c.counted.result
-          (c.self.inside.unmade + c.counted.result) c.self.invariant.count_is (grind (arith, common_steps, c.counted.ensures)) refl more;
+          (c.self.inside.unmade + c.counted.result) c.self.invariant.count_is
+          (grind (arith, common_steps, c.counted.ensures)) refl more;
       unique = own_push (λ a. a.name) old new acl c.self.invariant.unique free more;
       shallow = shallow_push c.self.inside.nestings.items old new acl c.in-Some.nesting c.self.invariant.shallow
           c.self.invariant.depths_are deep more;
