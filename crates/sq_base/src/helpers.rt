@@ -1,5 +1,5 @@
 //! What helper programs reply, and the answers that a check takes from them.
-ghost use Rattle.std.specs.Prelude.{◌≡◌, ◌++◌, ◌∷◌, [], ◌==◌, false, length, OnOk, OnErr, IfOk};
+ghost use Rattle.std.specs.Prelude.{◌≡◌, ◌++◌, ◌∷◌, [], ◌==◌, false, length, OnOk, OnErr};
 
 use crate::bytes::Text;
 use crate::listed::Listed;

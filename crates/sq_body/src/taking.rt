@@ -1,5 +1,5 @@
 //! The bytes at the front of what is left of the input.
-ghost use Rattle.std.specs.Prelude.{◌≡◌, ◌++◌, ◌<◌, [], ℕ, min, take, length, true, false, IfOk, OnOk, OnErr};
+ghost use Rattle.std.specs.Prelude.{◌≡◌, ◌++◌, ◌<◌, [], min, take, length, true, false, IfOk, OnOk, OnErr};
 ghost use Rattle.sq_body.specs.Bodies.{framed, sized, mark_step, trailed, is_whole_body, is_refused};
 ghost use Rattle.sq_body.specs.Feeding.{is_sound, is_sound_line, TakesFront};
 ghost use Rattle.sq_body.specs.declared.body_state.BodyState.TheVariants.{Line};

@@ -1,5 +1,5 @@
 //! Whether a cached reply is fresh, and whether its refresh is due.
-ghost use Rattle.std.specs.Prelude.{◌≡◌, ◌≤◌, ◌<◌, nat_lt};
+ghost use Rattle.std.specs.Prelude.{◌≡◌, ◌<◌};
 ghost use Rattle.sq_machine.specs.Freshness.{ttl_of, age, is_fresh, is_due, due_age};
 
 use sq_base::{Moment, What};

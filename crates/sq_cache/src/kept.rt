@@ -1,5 +1,5 @@
 //! The verdicts of one class.
-ghost use Rattle.std.specs.Prelude.{◌≡◌, [], false, true, is_some, IfOk, IsOk, OnOk, OnErr, IsTrue};
+ghost use Rattle.std.specs.Prelude.{◌≡◌, [], false, true, is_some, IfOk, IsOk, OnOk, OnErr};
 ghost use Rattle.sq_machine.specs.KeptLists.{verdict_of, to_front, used, keep, is_fault};
 ghost use Rattle.sq_cache.specs.Keeping.{taken_as, taken_for};
 

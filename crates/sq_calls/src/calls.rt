@@ -48,8 +48,8 @@ pub trait TellsJournal {
     ghost capped: { (desk : Self) → refused desk ≤ count_limit };
 }
 
-/// What a client's session calls. Each call that is made notes its entry, at its moment or the latest so far, and answers
-/// what the machine does next.
+/// What a client's session calls. Where the desk tells its entries, each call that is made notes one, at its moment or the
+/// latest so far, in which stands what the machine does next; the call's answer is that, as far as the entry has it.
 pub trait ConnCalls: TellsJournal {
     /// A client's connection opens.
     fn open(&mut self, conn: ConnNo, addr: Addr, port: u16, now: Moment) -> Result<(), DeskFault>
@@ -103,8 +103,9 @@ pub trait ConnCalls: TellsJournal {
         ensures made { Self.made self.new ≡ Self.made self.old };
 }
 
-/// What the threads of helper processes call. Each call that is made notes its entry, at its moment or the latest so far,
-/// and answers what the machine does next; `act` notes none where nothing is due.
+/// What the threads of helper processes call. Where the desk tells its entries, each call that is made notes one, at its
+/// moment or the latest so far, in which stands what the machine does next; the call's answer is that, as far as the entry
+/// has it. `act` notes none where nothing is due.
 pub trait HelperCalls: TellsJournal {
     /// The words of the program of the class at a place of a live epoch, if there is such a class, where it tells that.
     ghost programs: { Self → ℕ → ℕ → Option (Option (List (List ℕ))) } = { λ _ _ _. None };
@@ -194,7 +195,7 @@ pub trait ControlCalls: TellsJournal {
         → Type 0 } = { λ _ _ _ _ _. ⊤ };
 
     /// Another configuration is current, which is the one that its source states: the number of its epoch, which where
-    /// `made` is told is one above it. It notes its entry, at its moment or the latest so far.
+    /// `made` is told is one above it. Where the desk tells its entries, it notes one, at its moment or the latest so far.
     fn reconfigure(
         &mut self,
         alloc: Global,

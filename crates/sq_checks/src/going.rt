@@ -1,5 +1,5 @@
 //! The rules of a check, gone on with over the answers that it has.
-ghost use Rattle.std.specs.Prelude.{◌≡◌, ◌<◌, ◌&&◌, ◌==◌, Bool, List, [], length, true, bytes_eq, slice_get, IfOk, IfSome, Some, None};
+ghost use Rattle.std.specs.Prelude.{◌≡◌, ◌<◌, ◌&&◌, ◌==◌, Bool, List, [], true, bytes_eq, slice_get, IfOk, IfSome, Some, None};
 ghost use Rattle.std.specs.Option.{option_map};
 ghost use Rattle.sq_base.specs.declared.helpers.Answer.{Answer};
 ghost use Rattle.sq_rules.specs.Configurations.{Configuration};
@@ -11,7 +11,7 @@ ghost use Rattle.sq_rules.specs.declared.values.Value.TheVariants as value;
 ghost use Rattle.sq_machine.specs.StepRule.{class_of_acl};
 ghost use Rattle.sq_frames.specs.Givens.{given_value, ran_value, why_of};
 ghost use Rattle.sq_frames.specs.Slots.{is_external_at};
-ghost use Rattle.sq_frames.specs.Standing.{IsOver, looks_in};
+ghost use Rattle.sq_frames.specs.Standing.{looks_in};
 ghost use Rattle.sq_frames.specs.declared.answers.Ran.TheVariants as ran;
 ghost use Rattle.sq_checks.specs.Givens.{found_value, given_by, leaves_over, looks_over, AreCounted, AreFrames};
 

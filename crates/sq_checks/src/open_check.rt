@@ -216,8 +216,9 @@ impl OpenCheck {
     }
 
     /// Puts the answer that came among the others, if one did. It takes a copy, since a push that fails gives
-    /// nothing back. Where the rules stopped at the acl for which was asked, it is given the value of the answer, so
-    /// that they go on from there without its key.
+    /// nothing back.
+    // Where the rules stopped at the acl for which was asked, it is given the value of the answer, so that they go on
+    // from there without its key. What it is given, no clause says.
     pub fn settle(&mut self, alloc: Global) -> Result<(), WantOfMemory>
         ensures ok { OnOk result (self.new ≡ settled self.old) }
         ensures err { OnErr result (self.new ≡ self.old) }

@@ -1,5 +1,5 @@
 //! The open checks by number.
-ghost use Rattle.std.specs.Prelude.{◌≡◌, ◌<◌, ◌++◌, ◌∷◌, [], ℕ, true, false, length, map, is_some, IfSome, IfOk, IfErr, OnOk, OnErr, Some};
+ghost use Rattle.std.specs.Prelude.{◌≡◌, ◌<◌, ◌++◌, ◌∷◌, [], ℕ, true, false, length, map, is_some, IfSome, IfOk, OnOk, OnErr, Some};
 ghost use Rattle.std.specs.Option.{option_copied};
 ghost use Rattle.sq_base.specs.Distinct.{has_answer};
 ghost use Rattle.sq_lookup.specs.Waits.{has_check};

@@ -1,5 +1,5 @@
 //! The ends of questions: by a reply, with a process, or where no process comes.
-ghost use Rattle.std.specs.Prelude.{◌≡◌, ◌↔◌, [], ℕ, true, false, is_some, Some, None, if◌then◌else◌, IfOk, IfNone, IfSome, OnOk, OnErr, IsErrOf, ◌&&◌};
+ghost use Rattle.std.specs.Prelude.{◌≡◌, ◌↔◌, [], ℕ, true, false, Some, None, if◌then◌else◌, IfOk, IfNone, IfSome, OnOk, OnErr, IsErrOf, ◌&&◌};
 ghost use Rattle.sq_lookup.specs.Waits.{has_check};
 ghost use Rattle.sq_machine.specs.Channels.{is_open};
 ghost use Rattle.sq_machine.specs.Farms.{ended, failed, is_last_start};

@@ -1,5 +1,5 @@
 //! The rule of a step on the class that it asks.
-ghost use Rattle.std.specs.Prelude.{◌≡◌, ◌≤◌, ◌<◌, ◌^◌, ◌&&◌, ◌==◌, ℕ, List, suc, true, false, not, Some, None, if◌then◌else◌, IfOk, OnOk, OnErr, IsErrOf};
+ghost use Rattle.std.specs.Prelude.{◌≡◌, ◌≤◌, ◌<◌, ◌^◌, ◌&&◌, ℕ, List, suc, true, false, Some, None, if◌then◌else◌, IfOk, OnOk, OnErr, IsErrOf};
 ghost use Rattle.sq_lookup.specs.Waits.{is_free};
 ghost use Rattle.sq_machine.specs.Events.{is_number};
 ghost use Rattle.sq_machine.specs.Farms.{full};

@@ -1,10 +1,9 @@
 //! `ClassDraft`: a class of helpers as far as its line states it.
 ghost use Rattle.std.specs.Prelude.{◌≡◌, ◌≤◌, true, not, length, IfOk};
-ghost use Rattle.std.specs.List.{list_any};
 ghost use Rattle.sq_conf.specs.ClassDrafts.{children_of};
 ghost use Rattle.sq_conf.specs.Forms.{Gives, Makes};
 ghost use Rattle.sq_rules.specs.ClassLines.{class_of, class_step, default_class, option_step, token_step, up_to, with_option};
-ghost use Rattle.sq_rules.specs.Limits.{children_limit, name_limit, token_limit};
+ghost use Rattle.sq_rules.specs.Limits.{children_limit, name_limit};
 ghost use Rattle.sq_rules.specs.RewriteLines.{children_step, most_children};
 ghost use Rattle.sq_rules.specs.Steps.{is_empty, over};
 

@@ -1,9 +1,9 @@
 //! Options of `external_acl_type` and `url_rewrite_children`, by their names.
-ghost use Rattle.std.specs.Prelude.{◌≡◌, ◌==◌};
-ghost use Rattle.sq_base.specs.NameTables.{beside, is_among};
+ghost use Rattle.std.specs.Prelude.{◌≡◌};
+ghost use Rattle.sq_base.specs.NameTables.{is_among};
 ghost use Rattle.sq_conf.specs.Forms.{Gives};
-ghost use Rattle.sq_rules.specs.ClassLines.{bare_options, has_equals, is_option, option_of, valued_options, whole_options};
-ghost use Rattle.sq_rules.specs.RewriteLines.{children_option, children_options, option_named};
+ghost use Rattle.sq_rules.specs.ClassLines.{is_option, option_of};
+ghost use Rattle.sq_rules.specs.RewriteLines.{children_option, option_named};
 
 use crate::cuts::{before, holds};
 use crate::faults::ReadFault;

@@ -49,7 +49,8 @@ fn is_name(word: &[u8]) -> bool
 
 /// The place of the acl of this name, or none where there is room for it.
 pub fn acl_named(builder: &Builder, word: &Text) -> Result<Option<u32>, ReadFault>
-    ensures read { Gives (λ p. p) result (acl_named builder.now.dst_lookup builder.now.acls word.now) }
+    ensures read { Gives (λ p. p) result
+        (acl_named builder.now.dst_lookup builder.now.acls word.now) }
     ensures target { IfOk result
         (λ p. IsTarget builder.now.dst_lookup builder.now.acls word.now p) }
 {

@@ -1,7 +1,7 @@
 //! Values of time.
 ghost use Rattle.std.specs.Prelude.{◌≡◌, ◌<◌, ◌≤◌, IfSome};
 ghost use Rattle.sq_conf.specs.Forms.{Gives};
-ghost use Rattle.sq_rules.specs.AclValues.{day_bits, days_on, days_of, short_number, minute_of, period_of, hours_value, behind_days, by_first, time_value, time_values};
+ghost use Rattle.sq_rules.specs.AclValues.{day_bits, days_of, short_number, minute_of, period_of, hours_value, behind_days, time_value, time_values};
 ghost use Rattle.sq_rules.specs.Times.{day_minutes};
 
 use crate::cuts::{before, behind};

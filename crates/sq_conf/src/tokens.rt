@@ -1,7 +1,7 @@
 //! Tokens of `external_acl_type`.
-ghost use Rattle.std.specs.Prelude.{◌≡◌, ◌==◌, ◌||◌, Some, None, bytes_eq, codes, nat_eq};
+ghost use Rattle.std.specs.Prelude.{◌≡◌, ◌==◌, ◌||◌, Some, None, bytes_eq};
 ghost use Rattle.std.specs.List.{starts_with};
-ghost use Rattle.sq_base.specs.Lines.{but_last, ends_in};
+ghost use Rattle.sq_base.specs.Lines.{ends_in};
 ghost use Rattle.sq_base.specs.NameTables.{beside};
 ghost use Rattle.sq_conf.specs.Forms.{Gives};
 ghost use Rattle.sq_rules.specs.ClassLines.{field_name, field_token, is_field, token_of, whole_tokens};

@@ -1,5 +1,5 @@
 //! A control as the panel of a server.
-ghost use Rattle.std.specs.Prelude.{◌≡◌, ℕ, ◌<◌, Some, true};
+ghost use Rattle.std.specs.Prelude.{◌≡◌, ◌<◌};
 
 use crate::attending::{Beside, attend};
 use crate::panel::{Monitor, Panel, PanelEnd};

@@ -1,5 +1,5 @@
 //! `Desk`: the machine, and the journal of what it did.
-ghost use Rattle.std.specs.Prelude.{◌≡◌, ◌≤◌, suc, [], false, Some, IfOk, IfErr, IfSome};
+ghost use Rattle.std.specs.Prelude.{◌≡◌, ◌≤◌, suc, [], false, IfOk, IfErr, IfSome};
 ghost use Rattle.sq_calls.specs.Legality.{Beginning, IsLegal};
 ghost use Rattle.sq_desk.specs.Calling.{HasBegun, IsUnbegun};
 ghost use Rattle.sq_desk.specs.Desks.{HasSpare, IsReplay, no_beginning};

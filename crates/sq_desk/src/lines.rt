@@ -2,7 +2,6 @@
 ghost use Rattle.std.specs.Prelude.{◌≡◌, ◌+◌, max};
 ghost use Rattle.sq_engine.specs.EngineViews.{state_of};
 ghost use Rattle.sq_engine.specs.Lines.{got_told};
-ghost use Rattle.sq_engine.specs.Promised.{IsPromised};
 ghost use Rattle.sq_machine.specs.declared.entries.Event.TheVariants as event;
 ghost use Rattle.sq_desk.specs.Calling.{IsLinePromised, Leaves, Reads, desk_of, load_of};
 

@@ -1,6 +1,5 @@
 //! The journal of a desk.
 ghost use Rattle.std.specs.Prelude.{◌≡◌, ◌+◌, ◌-◌, ◌<◌, ◌≤◌, IsErrOf, false};
-ghost use Rattle.sq_outside.specs.Causes.{raised};
 ghost use Rattle.sq_calls.specs.Faults.{fault_of};
 ghost use Rattle.sq_calls.specs.declared.faults.DeskFault.TheVariants as fault;
 ghost use Rattle.sq_desk.specs.Noting.{IsNoted, IsReady, after_refusal, counted};

@@ -1,6 +1,5 @@
 //! Checks go on.
 ghost use Rattle.std.specs.Prelude.{◌≡◌, ◌+◌, ◌≤◌, [], max, vec_len, vec_capacity, IfOk};
-ghost use Rattle.std.specs.Option.{option_map_or};
 ghost use Rattle.sq_machine.specs.declared.entries.Event.TheVariants as event;
 ghost use Rattle.sq_model_state.specs.Answers.{name_in};
 ghost use Rattle.sq_engine.specs.EngineViews.{state_of};

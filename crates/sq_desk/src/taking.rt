@@ -1,5 +1,5 @@
 //! Outcomes of checks are taken.
-ghost use Rattle.std.specs.Prelude.{◌≡◌, ◌+◌, ℕ, max, Some, IfOk};
+ghost use Rattle.std.specs.Prelude.{◌≡◌, ◌+◌, max, Some, IfOk};
 ghost use Rattle.sq_checks.specs.OpenChecks.{CheckParts};
 ghost use Rattle.sq_checks.specs.Records.{judged_of};
 ghost use Rattle.sq_checks.specs.Tables.{value_at};

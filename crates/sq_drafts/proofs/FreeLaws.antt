@@ -219,7 +219,8 @@ free_but_dst acls n known free other =
     (and_from (is_none (place_of acls (lookup_name n))) (is_none (place_of acls (named_name n)))
     (free_of acls (lookup_name n) known (lookup_blank n)
     (ends_apart (lookup_name n) (codes "dst literal") (n ++ codes " looku") (codes "dst litera") 112 108
-    (lookup_split n) refl refl) (lookup_unmade n (names_of acls) new))
+    (lookup_split n)
+    refl refl) (lookup_unmade n (names_of acls) new))
     (free_of acls (named_name n) known (named_blank n)
     (ends_apart (named_name n) (codes "dst literal") (n ++ codes " name") (codes "dst litera") 100 108 (named_split n)
     refl refl) (named_unmade n (names_of acls) new)))

@@ -78,8 +78,13 @@ placed f n p (x ∷ xs) q is = by (bytes_eq (f x) q) refl is (placed f (suc n) p
         → (place_from f (suc n) xs q ≡ Some p → IsPlaced f (suc n) p xs q) → IsPlaced f n p (x ∷ xs) q
     by true t e later =
         let same : n ≡ p = cc in
-        record
-        { behind = zero; here = omega (arith, same); one = x; there = refl; named = (bytes_eq-Decides (f x) q).0 t }
+        record {
+          behind = zero;
+          here = omega (arith, same);
+          one = x;
+          there = refl;
+          named = (bytes_eq-Decides (f x) q).0 t;
+        }
     by false t e later =
         let r = later e in
         record { behind = suc r.behind; here = omega (arith, r.here); one = r.one; there = r.there; named = r.named }

@@ -1,7 +1,7 @@
 -- What a question about a host is answered: whether some address of the host lies in the values of
 -- the acl that asks (configuration reference, `acl`: type dst; Squid's helper protocol page: OK,
 -- ERR and BH).
-use Rattle.std.specs.Prelude.{ℕ, List, [], Bool, false, ◌&&◌, if◌then◌else◌, Some, None, codes, bytes_eq, find}
+use Rattle.std.specs.Prelude.{ℕ, List, Bool, false, ◌&&◌, if◌then◌else◌, Some, None, codes, bytes_eq, find}
 use Rattle.std.specs.List.{list_any}
 use Rattle.std.specs.declared.option.Option.{Option}
 use Rattle.sq_base.specs.Addresses.{Address}

@@ -1,7 +1,7 @@
 -- Keys of the class by which names are looked up: the host, the name of the acl that asks, and `-`,
 -- with a space between them (configuration reference, `external_acl_type`, FORMAT; `dst_lookup` is
 -- this program's own).
-use Rattle.std.specs.Prelude.{ℕ, ◌+◌, ◌-◌, List, [], ◌∷◌, ◌++◌, length, take, drop, Bool, ◌&&◌, ◌==◌, if◌then◌else◌, Some, None, codes, bytes_eq, nat_le, position}
+use Rattle.std.specs.Prelude.{ℕ, ◌+◌, ◌-◌, List, ◌∷◌, ◌++◌, length, take, drop, Bool, ◌&&◌, ◌==◌, if◌then◌else◌, Some, None, codes, bytes_eq, nat_le, position}
 use Rattle.std.specs.Option.{option_map}
 use Rattle.std.specs.declared.option.Option.{Option}
 use Rattle.percent_encoding.specs.Percent.{percent_decode}

@@ -1,5 +1,5 @@
 //! What a question about a host asks for.
-ghost use Rattle.std.specs.Prelude.{◌≡◌, ◌≢◌, ◌≤◌, ◌++◌, List, ℕ, length, position, None, IfOk, IfSome};
+ghost use Rattle.std.specs.Prelude.{◌≡◌, ◌≢◌, ◌≤◌, List, ℕ, length, position, None, IfOk, IfSome};
 ghost use Rattle.std.specs.Option.{option_map};
 ghost use Rattle.sq_base.specs.Texts.{AreBytes};
 ghost use Rattle.sq_dst.specs.LookupKeys.{before_end, host_asked, is_space, key_at, key_of_words, lookup_key, lookup_text, question_limit};

@@ -33,7 +33,8 @@ pub fn reply_for(
     question: &[u8],
     found: Option<&Addrs>,
 ) -> Result<Text, WantOfMemory>
-    ensures { IfOk result (λ t. t ≡ reply_text config.now question.now (option_copied found.entry)) }
+    ensures { IfOk result
+        (λ t. t ≡ reply_text config.now question.now (option_copied found.entry)) }
 {
     let values = key_values(alloc, config, question)?;
     Text::from_slice(alloc, reply_over(values, found))

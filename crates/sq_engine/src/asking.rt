@@ -1,5 +1,5 @@
 //! A request arrives.
-ghost use Rattle.std.specs.Prelude.{◌≡◌, ℕ, List, max, suc, true, is_some, IfOk, OnOk, OnErr};
+ghost use Rattle.std.specs.Prelude.{◌≡◌, ℕ, List, max, true, is_some, IfOk, OnOk, OnErr};
 ghost use Rattle.sq_base.specs.Targets.{target_of};
 ghost use Rattle.sq_base.specs.declared.requests.Field.{Field};
 ghost use Rattle.sq_rules.specs.Sights.{asked_request, unversioned};

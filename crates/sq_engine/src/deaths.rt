@@ -1,5 +1,5 @@
 //! Processes end.
-ghost use Rattle.std.specs.Prelude.{◌≡◌, max, true, false, is_some, Some, OnOk, OnErr};
+ghost use Rattle.std.specs.Prelude.{◌≡◌, max, false, Some, OnOk, OnErr};
 ghost use Rattle.sq_base.specs.declared.helpers.Cause.TheVariants as cause;
 ghost use Rattle.sq_machine.specs.DueActs.{ClassId};
 ghost use Rattle.sq_machine.specs.declared.entries.Event.TheVariants as event;

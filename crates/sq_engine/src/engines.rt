@@ -1,5 +1,5 @@
 //! `Engine`: the parts of the machine.
-ghost use Rattle.std.specs.Prelude.{◌≡◌, ◌<◌, ◌^◌, suc, max, IfOk};
+ghost use Rattle.std.specs.Prelude.{◌<◌, IfOk};
 ghost use Rattle.sq_model_state.specs.Changes.{first_state};
 ghost use Rattle.sq_model_state.specs.States.{IsSame};
 ghost use Rattle.sq_engine.specs.EngineViews.{state_of};

@@ -3,7 +3,7 @@ ghost use Rattle.std.specs.Prelude.{◌≡◌, ◌<◌, ◌^◌, ◌∷◌, [], 
 ghost use Rattle.std.specs.Option.{option_map};
 ghost use Rattle.std.specs.Arc.{arc_value};
 ghost use Rattle.sq_class.specs.Parts.{IsAsBefore, PartState};
-ghost use Rattle.sq_class.specs.Steps.{IsSpent, IsStepped};
+ghost use Rattle.sq_class.specs.Steps.{IsSpent};
 ghost use Rattle.sq_rules.specs.Classes.{Class};
 ghost use Rattle.sq_machine.specs.OpenLookups.{all_below, question_of};
 ghost use Rattle.sq_model_rows.specs.StepRows.{says_of_row};

@@ -1,5 +1,5 @@
 //! `Epochs`: the live epochs, the homes of processes and the due stops.
-ghost use Rattle.std.specs.Prelude.{◌≡◌, ◌<◌, ◌≤◌, ◌^◌, ◌∷◌, ◌==◌, [], ℕ, suc, true, false, is_some, Some, None, map, length, IfOk, IfNone, IfSome, OnOk, OnErr, IsErrOf};
+ghost use Rattle.std.specs.Prelude.{◌≡◌, ◌<◌, ◌≤◌, ◌^◌, ◌∷◌, ◌==◌, [], ℕ, suc, true, is_some, Some, None, map, length, IfOk, IfNone, IfSome, OnOk, OnErr, IsErrOf};
 ghost use Rattle.std.specs.Arc.{arc_value};
 ghost use Rattle.std.specs.Option.{option_map};
 ghost use Rattle.sq_class.specs.Parts.{IsAsBefore, PartState};
@@ -8,7 +8,7 @@ ghost use Rattle.sq_rules.specs.Classes.{Class};
 ghost use Rattle.sq_machine.specs.OpenLookups.{all_below, question_of};
 ghost use Rattle.sq_machine.specs.Rising.{Rises, place_among};
 ghost use Rattle.sq_model_rows.specs.StepRows.{says_of_row};
-ghost use Rattle.sq_epochs.specs.EpochStates.{EpochState, IsChanged, class_at, epoch_at, epoch_number, home_at, new_epoch, part_at};
+ghost use Rattle.sq_epochs.specs.EpochStates.{IsChanged, class_at, epoch_at, epoch_number, home_at, new_epoch, part_at};
 ghost use Rattle.sq_epochs.specs.EpochChanges.{HasFailed, HasLeft, HasNoLoss, HasNoStart, HasReplied, IsHandedOn, IsResolved};
 ghost use Rattle.sq_machine.specs.Channels.{is_open};
 ghost use Rattle.sq_farm.specs.Replies.{got_of};

@@ -35,7 +35,8 @@ fn decision_over<L: Ledger>(taking: &EvalInputs, rule: &Rule, blank: Blank) -> O
     requires facts { length taking.now.facts.now ≡ length taking.now.config.now.acls }
     requires fast { is_fast_rule taking.now.config.now.acls rule.now ≡ true }
     requires nobody { has_answers taking.now.helpers ≡ false }
-    ensures { result ≡ shown_as rule.now (rule_value (taken_in taking.now) (acls_in taking.now) rule.now) }
+    ensures { result
+        ≡ shown_as rule.now (rule_value (taken_in taking.now) (acls_in taking.now) rule.now) }
 {
     taking.config.facts();
     let mut steps = Steps::<L>::open(blank);

@@ -1,7 +1,5 @@
 //! The verdict of a configuration, or what is needed for it.
-ghost use Rattle.std.specs.Prelude.{◌≡◌, ◌<◌, ◌≤◌, true, length, slice_get, IfOk, OnErr};
-ghost use Rattle.std.specs.List.{list_all};
-ghost use Rattle.sq_rules.specs.Configurations.{is_known_rule};
+ghost use Rattle.std.specs.Prelude.{◌≡◌, ◌<◌, ◌≤◌, length, slice_get, IfOk};
 ghost use Rattle.sq_rules.specs.Facts.{facts_of};
 ghost use Rattle.sq_rules.specs.Limits.{rule_limit};
 ghost use Rattle.sq_rules.specs.Verdicts.{default_of, name_of, rules_from, verdict_over};

@@ -1,8 +1,7 @@
 //! The delay pool of a check.
-ghost use Rattle.std.specs.Prelude.{◌≡◌, ◌<◌, ◌≤◌, List, true, false, length};
+ghost use Rattle.std.specs.Prelude.{◌≡◌, ◌<◌, List, true, false, length};
 ghost use Rattle.sq_rules.specs.Configurations.{is_pool};
 ghost use Rattle.sq_rules.specs.Facts.{facts_of};
-ghost use Rattle.sq_rules.specs.Limits.{pool_limit};
 ghost use Rattle.sq_rules.specs.Verdicts.{is_in_pool, is_passed_over, outcome_so_far, pool_from, pool_of};
 ghost use Rattle.sq_rules.specs.declared.configs.Acl.{Acl};
 ghost use Rattle.sq_rules.specs.declared.sights.Sight.{Sight};

@@ -1,8 +1,8 @@
 //! `Farm`: the processes of one class, the questions that wait for them, and what to do next.
-ghost use Rattle.std.specs.Prelude.{◌≡◌, ◌<◌, ◌≤◌, ◌+◌, ◌-◌, ◌*◌, ◌↔◌, ◌∷◌, ◌==◌, [], ℕ, List, not, ◌&&◌, ◌||◌, length, map, max, true, false, if◌then◌else◌, is_some, Some, None, IfOk, IfErr, IfSome, OnOk, OnErr, IsErrOf};
-ghost use Rattle.std.specs.Option.{option_map, option_to_list};
+ghost use Rattle.std.specs.Prelude.{◌≡◌, ◌<◌, ◌≤◌, ◌+◌, ◌-◌, ◌*◌, ◌↔◌, ◌==◌, [], ℕ, not, ◌&&◌, ◌||◌, length, map, max, true, false, if◌then◌else◌, is_some, Some, None, IfOk, IfSome, OnOk, OnErr, IsErrOf};
+ghost use Rattle.std.specs.Option.{option_to_list};
 ghost use Rattle.std.specs.declared.option.Option.{Option};
-ghost use Rattle.sq_machine.specs.Living.{Living, find_proc, lives, settled_in, slots_in, with_proc};
+ghost use Rattle.sq_machine.specs.Living.{lives, settled_in, slots_in};
 ghost use Rattle.sq_machine.specs.Channels.{is_open, opened};
 ghost use Rattle.sq_channel.specs.Gots.{names_open};
 ghost use Rattle.sq_farm.specs.Acts.{act_of, told_send, told_start};

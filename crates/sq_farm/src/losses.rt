@@ -1,5 +1,5 @@
 //! `Losses`: the questions that an end or a failed start gave a fault, until they are handed out.
-ghost use Rattle.std.specs.Prelude.{◌≡◌, ◌<◌, ◌≤◌, ◌+◌, ◌∷◌, [], length, map, IfOk, OnOk, OnErr};
+ghost use Rattle.std.specs.Prelude.{◌≡◌, ◌<◌, ◌≤◌, ◌+◌, [], length, map, OnOk};
 ghost use Rattle.sq_machine.specs.Losses.{first_lost, later_lost, lose, loss_number, times_lost};
 ghost use Rattle.sq_machine.specs.Rising.{Rises, place_among};
 

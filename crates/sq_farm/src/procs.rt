@@ -1,5 +1,5 @@
 //! `Procs`: the living processes of a class, by number, and which of them have a free channel.
-ghost use Rattle.std.specs.Prelude.{◌≡◌, ◌<◌, ◌≤◌, ◌+◌, ◌∷◌, [], length, map, true, false, is_some, Some, None, IfOk, IfSome, OnOk, OnErr};
+ghost use Rattle.std.specs.Prelude.{◌≡◌, ◌<◌, ◌≤◌, ◌+◌, [], length, map, true, false, is_some, Some, None, IfSome, OnOk, OnErr};
 ghost use Rattle.std.specs.Option.{option_map};
 ghost use Rattle.sq_machine.specs.Channels.{is_open};
 ghost use Rattle.sq_machine.specs.Living.{find_proc, free_numbers, has_free, is_none_living, lives, living_number, sent, settled_in, slots_in, some_free, target, times_in, with_proc, without};

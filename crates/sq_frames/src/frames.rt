@@ -77,7 +77,8 @@ fn run_over<L: Ledger>(
     ensures stands { IsPosition config.now position.new }
     ensures asks { Asks config.now.acls (slots_of config.now.acls) table.now (needed_by result) }
     ensures value { ran_value config.now.acls result ≡ value_over facts.now config.now table.now }
-    ensures fault { FaultIs (taken_given config.now.acls (slots_of config.now.acls) facts.now table.now)
+    ensures fault { FaultIs
+        (taken_given config.now.acls (slots_of config.now.acls) facts.now table.now)
         config.now position.new result }
     ensures looked { IsPlaced facts.now config.now table.now position.new
         (leaves_by (taken_given config.now.acls (slots_of config.now.acls) facts.now table.now)

@@ -1,5 +1,5 @@
 //! A place in the rules of a configuration.
-ghost use Rattle.std.specs.Prelude.{[], true, false, Some, IfOk, ◌≡◌, ◌+◌, ◌<◌, ◌≤◌, ◌^◌, length, min};
+ghost use Rattle.std.specs.Prelude.{[], true, false, Some, IfOk, ◌≡◌, ◌+◌, ◌<◌, ◌≤◌, ◌^◌};
 ghost use Rattle.sq_frames.specs.Groups.{first_of, line_on, lines_on, moved, next_at, term_on, AreOpen, FitsNext};
 ghost use Rattle.sq_frames.specs.OpenGroups.{depth_of};
 ghost use Rattle.sq_frames.specs.Positions.{look_limit, looked_more, position_moved, IsPosition};

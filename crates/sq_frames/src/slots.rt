@@ -1,5 +1,5 @@
 //! The external acls of a configuration by their slots.
-ghost use Rattle.std.specs.Prelude.{◌≡◌, ◌≤◌, length, IfOk, OnOk};
+ghost use Rattle.std.specs.Prelude.{◌≡◌, ◌≤◌, length, IfOk};
 ghost use Rattle.std.specs.Arc.{arc_value};
 ghost use Rattle.sq_rules.specs.Limits.{most_acls};
 ghost use Rattle.sq_frames.specs.OpenGroups.{depth_of};

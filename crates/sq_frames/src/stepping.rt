@@ -11,7 +11,7 @@ ghost use Rattle.sq_rules.specs.declared.values.Value.TheVariants as value;
 ghost use Rattle.sq_frames.specs.Givens.{given_at, needed_by, ran_value};
 ghost use Rattle.sq_frames.specs.Groups.{first_of, under_not};
 ghost use Rattle.sq_frames.specs.Kinds.{is_group_at, is_leaf_at};
-ghost use Rattle.sq_frames.specs.Positions.{next_of, taken_in, Asks, FaultIs, Goes, IsNext, IsPosition, IsSmall, IsStep, IsStop, Stops};
+ghost use Rattle.sq_frames.specs.Positions.{next_of, taken_in, Asks, FaultIs, Goes, IsNext, IsPosition, IsStep, IsStop, Stops};
 ghost use Rattle.sq_frames.specs.Slots.{is_external_at};
 ghost use Rattle.sq_frames.specs.declared.answers.Given.{Given};
 ghost use Rattle.sq_frames.specs.declared.answers.Given.TheVariants as given;

@@ -1,5 +1,5 @@
 -- Fields, one at a time.
-use Rattle.std.proofs.Common.{◌≡◌, ℕ, ◌+◌, ◌≤◌, List, [], ◌∷◌, ◌++◌, Bool, true, false, length, take, drop, map, append_assoc, ap, arith, length-take, codes}
+use Rattle.std.proofs.Common.{◌≡◌, ℕ, ◌+◌, ◌≤◌, List, ◌∷◌, ◌++◌, Bool, true, false, length, take, drop, map, append_assoc, ap, arith, length-take, codes}
 use Rattle.std.proofs.lemmas.List.{length-map}
 use Rattle.std.specs.List.{filter, flat_map}
 use Rattle.std.specs.Str.{str_eq_ignore_ascii_case}

@@ -1,6 +1,5 @@
 //! What Connection lists, where it lists much.
 ghost use Rattle.std.specs.Prelude.{◌≡◌, ◌++◌, ◌∷◌, [], ℕ, List, true, false, Some, None, if◌then◌else◌, bytes_eq, map, IfOk, OnOk};
-ghost use Rattle.std.specs.Borrow.{Bor};
 ghost use Rattle.sq_base.specs.declared.requests.Field.{Field};
 ghost use Rattle.sq_head.specs.FieldNames.{is_one_of};
 ghost use Rattle.sq_head.specs.Marks.{mark_at, mark_of, marked_if, names_some, IsMarked};

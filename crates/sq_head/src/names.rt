@@ -1,5 +1,5 @@
 //! Names of fields, and which of them are never passed on: RFC 9110 sections 5.1 and 7.6.1.
-ghost use Rattle.std.specs.Prelude.{◌≡◌, map};
+ghost use Rattle.std.specs.Prelude.{◌≡◌};
 ghost use Rattle.std.specs.List.{list_any};
 ghost use Rattle.std.specs.Str.{str_eq_ignore_ascii_case};
 ghost use Rattle.sq_head.specs.FieldNames.{is_one_of, dropped, of_the_proxy, of_one_connection};

@@ -1,5 +1,5 @@
 //! Whether a field is allowed, by a walk over the rules.
-ghost use Rattle.std.specs.Prelude.{◌≡◌, ◌&&◌, true, false, length, [], codes};
+ghost use Rattle.std.specs.Prelude.{◌≡◌, ◌&&◌, true, length, []};
 ghost use Rattle.std.specs.Str.{str_eq_ignore_ascii_case};
 ghost use Rattle.sq_eval.specs.Takings.{fact_taken};
 ghost use Rattle.sq_headers.specs.Access.{allowed_by};

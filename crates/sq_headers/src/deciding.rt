@@ -1,5 +1,5 @@
 //! What the rules decide of the fields of one head.
-ghost use Rattle.std.specs.Prelude.{◌≡◌, ◌++◌, ◌∷◌, [], ℕ, List, Bool, true, length, All, IfOk, IfSome, OnOk};
+ghost use Rattle.std.specs.Prelude.{◌≡◌, [], ℕ, List, Bool, true, length, All, IfOk, IfSome, OnOk};
 ghost use Rattle.std.specs.Str.{str_eq_ignore_ascii_case};
 ghost use Rattle.sq_eval.specs.Takings.{fact_taken};
 ghost use Rattle.sq_headers.specs.Access.{allowed_by};

@@ -51,8 +51,8 @@ pub fn reply_head(
     requires { length facts.now ≡ length config.now.acls }
     ensures text { (s : Sight) → facts.now ≡ facts_of config.now.acls s
         → IfOk result (λ t. t ≡ reply_text config.now s head.now shape) }
-    ensures by_facts { IfOk result (λ t. t ≡ reply_head_out_where (access_by config.now facts.now).reply
-        head.now shape) }
+    ensures by_facts { IfOk result
+        (λ t. t ≡ reply_head_out_where (access_by config.now facts.now).reply head.now shape) }
 {
     config.facts();
     let names = decided_names(alloc, config, facts, true, head.fields.as_slice())?;

@@ -1,5 +1,5 @@
 //! `Pipes`: the writing halves of the processes that were started.
-ghost use Rattle.std.specs.Prelude.{◌≡◌, ◌+◌, ◌++◌, ◌∷◌, ◌<◌, ◌≤◌, [], None, Some, false, IfSome, OnOk, OnErr};
+ghost use Rattle.std.specs.Prelude.{◌≡◌, ◌+◌, ◌++◌, ◌∷◌, ◌<◌, [], None, Some, false, IfSome, OnOk};
 ghost use Rattle.sq_base.specs.Replies.{question_text};
 ghost use Rattle.sq_helper_pipes.specs.Pipes.{Asks, Fails, Shuts, Changes, pipe_place, open_ones};
 ghost use Rattle.sq_helper_pipes.specs.PipeViews.{room_of, pipes_of};

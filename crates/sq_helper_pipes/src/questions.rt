@@ -1,5 +1,5 @@
 //! Questions, written to a sink.
-ghost use Rattle.std.specs.Prelude.{◌≡◌, OnOk, OnErr};
+ghost use Rattle.std.specs.Prelude.{OnOk, OnErr};
 ghost use Rattle.std.specs.Io.KnownBytes.{Appends};
 ghost use Rattle.sq_base.specs.Replies.{question_text};
 ghost use Rattle.sq_outside.specs.Causes.{HasCause};

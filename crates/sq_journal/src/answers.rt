@@ -1,5 +1,4 @@
 //! Answers read from words.
-ghost use Rattle.std.specs.Prelude.{◌≡◌};
 ghost use Rattle.sq_journal.specs.Reading.{ReadsFront, ReadsWithoutMemory, word_in};
 ghost use Rattle.sq_journal.specs.ToldReading.{told_in, told_after, epoch_told, channel_of, pool_named};
 ghost use Rattle.sq_journal.specs.declared.names.AnswerName.TheVariants as name;

@@ -1,5 +1,5 @@
 //! Events read from words.
-ghost use Rattle.std.specs.Prelude.{◌≡◌, Some};
+ghost use Rattle.std.specs.Prelude.{Some};
 ghost use Rattle.sq_journal.specs.Reading.{ReadsFront, event_after, event_in, fields_from};
 ghost use Rattle.sq_journal.specs.declared.names.EventName.TheVariants as name;
 

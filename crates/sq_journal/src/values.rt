@@ -1,7 +1,7 @@
 //! Values of single words: numbers, offsets, addresses, texts and fields.
 ghost use Rattle.std.specs.Prelude.{◌≡◌, ◌<◌, ◌^◌, IfOk, IfSome, length, position};
 ghost use Rattle.sq_base.specs.Decimals.{number_of};
-ghost use Rattle.sq_journal.specs.Reading.{ReadsFront, ReadsWithoutMemory, ReadsText, word_in, below_in, number_in, text_in, offset_from, negative, printed_address, cut_field, field_from, field_at};
+ghost use Rattle.sq_journal.specs.Reading.{ReadsFront, ReadsWithoutMemory, ReadsText, word_in, below_in, number_in, text_in, offset_from, negative, printed_address, cut_field, field_from};
 ghost use Rattle.sq_base.specs.Addresses.{is_colon};
 ghost use Rattle.sq_journal.specs.Values.{IsOffset};
 

@@ -1,5 +1,5 @@
 //! The reading of lines from a source.
-ghost use Rattle.std.specs.Prelude.{◌≡◌, ◌≤◌, ◌∷◌, ◌++◌, [], true, false, List, ℕ};
+ghost use Rattle.std.specs.Prelude.{◌≡◌, ◌≤◌, ◌∷◌, ◌++◌, [], true, false};
 ghost use Rattle.std.specs.Io.KnownBytes.{IsAtEnd};
 ghost use Rattle.sq_keeper.specs.Handing.{Adds};
 ghost use Rattle.sq_keeper.specs.Lines.{ReadsLines};

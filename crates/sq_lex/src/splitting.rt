@@ -1,5 +1,5 @@
 //! A text cut into the lines of its file.
-ghost use Rattle.std.specs.Prelude.{◌≡◌, ◌+◌, ◌≤◌, length, IfOk};
+ghost use Rattle.std.specs.Prelude.{◌≡◌, IfOk};
 ghost use Rattle.sq_base.specs.Lines.{ends_in, without_cr, file_lines};
 
 use sq_base::{Listed, Text, Texts, WantOfMemory};

@@ -128,8 +128,8 @@ unfolding next next_at ask_count ask_of check_open open_among is_done peer_at op
     quoted_len
 one_waits = refl
 
--- a verdict is fresh for ten seconds, to the millisecond; then its question is put anew,
--- and a death is the fault of whoever waits
+-- a verdict is fresh for ten seconds, to the millisecond; then its question is put anew, and a death is the fault of
+-- whoever waits
 pub kept_for_ten_seconds : runs_with (config_with (record class_v { ttl = 10; negative_ttl = 10 }) ∷ [])
     (conn 0 1 a_example ++ at 0 (Step 1) ∷ first_sent 0 ++ at 0 (Line 1 (codes "OK")) ∷ conn 9999 2 a_example ++
     at 9999 (Step 2) ∷ at 9999 (Step 2) ∷ conn 10000 3 a_example ++ at 10000 (Step 3) ∷ at 10000 Act ∷ at 10001 (Died 1)
@@ -188,8 +188,8 @@ unfolding next next_at ask_count ask_of check_open open_among is_done peer_at op
     quoted_len
 queue_full = refl
 
--- both starts fail: no act is due between them, and the second loses every queued question;
--- a new question ends the hold
+-- both starts fail: no act is due between them, and the second loses every queued question; a new question ends the
+-- hold
 pub no_helper : runs_with (config_with (record class_v { children_max = 2; queue_size = 4 }) ∷ [])
     (conn 0 1 a_example ++ conn 0 2 b_example ++ at 0 (Step 1) ∷ at 0 Act ∷ at 0 (Step 2) ∷ at 0 Act ∷
     at 0 (StartFail 1 (codes "v")) ∷ at 0 Act ∷ at 0 (StartFail 1 (codes "v")) ∷ at 0 Act ∷ at 0 (Step 1) ∷

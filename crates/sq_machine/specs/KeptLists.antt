@@ -1,7 +1,7 @@
 -- In the statement: docs/STATEMENT.md lists which definitions.
 -- The cached replies of a class, and what moves them (configuration reference, `external_acl_type`,
 -- option `cache=`).
-use Rattle.std.specs.Prelude.{ℕ, List, ◌∷◌, take, Bool, true, false, ◌&&◌, ◌==◌, if◌then◌else◌, nat_lt, nat_eq, is_some, None, Some}
+use Rattle.std.specs.Prelude.{ℕ, List, ◌∷◌, take, Bool, true, false, ◌&&◌, if◌then◌else◌, nat_lt, nat_eq, is_some, None, Some}
 use Rattle.std.specs.Option.{option_map_or}
 use Rattle.std.specs.declared.option.Option.{Option}
 use Rattle.std.specs.Map.{lookup, lookup_entry, remove_entry}

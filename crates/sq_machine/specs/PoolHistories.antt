@@ -1,8 +1,7 @@
 -- In the statement: docs/STATEMENT.md lists which definitions.
 -- What a history says to delay pools: to those with buckets by addresses, and to those with buckets
 -- by tags.
-use Rattle.std.specs.Prelude.{ℕ, suc, List, [], ◌∷◌, Bool, true, false, Some, None}
-use Rattle.std.specs.Option.{option_map_or}
+use Rattle.std.specs.Prelude.{ℕ, suc, List, [], ◌∷◌, Some, None}
 use Rattle.std.specs.declared.option.Option.{Option}
 use Rattle.sq_base.specs.Addresses.{Address}
 use Rattle.sq_base.specs.declared.helpers.Answer.{Answer}
@@ -16,7 +15,7 @@ use Rattle.sq_rules.specs.Configurations.{Configuration}
 use Rattle.sq_machine.specs.Checks.{Asked}
 use Rattle.sq_machine.specs.Epochs.{config_of}
 use Rattle.sq_machine.specs.Marks.{Past, entries}
-use Rattle.sq_machine.specs.PoolReadings.{Beginning, PoolEvent, PoolHistory, Begins, Sits, Passes, Grants, Leaves, Rests, beginning_of, tag_beginning_of, sat_in, tag_sat_in}
+use Rattle.sq_machine.specs.PoolReadings.{PoolEvent, PoolHistory, Begins, Sits, Passes, Grants, Leaves, Rests, beginning_of, tag_beginning_of, sat_in, tag_sat_in}
 use Rattle.sq_machine.specs.Readings.{current}
 use Rattle.sq_machine.specs.SeatPlaces.{seat_place}
 use Rattle.sq_machine.specs.TakenRecords.{allowed_of, taken_answers}

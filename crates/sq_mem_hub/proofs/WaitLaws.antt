@@ -26,7 +26,6 @@ use Rattle.sq_model_state.specs.Answers.{name_in}
 use Rattle.sq_model_state.specs.Promises.{IsAnswered, StandsFor}
 use Rattle.sq_model_state.specs.States.{IsSame, is_of_pools}
 use Rattle.sq_engine.specs.Acting.{IsActPromised, told_of_act}
-use Rattle.sq_engine.specs.Begun as engine
 use Rattle.sq_engine.specs.EngineViews.{EngineView, state_of}
 use Rattle.sq_engine.specs.Promised.{IsPromised, IsPromisedAt}
 use Rattle.sq_conn_policy.specs.Tellings.{AreKept, HubState, PutsBy, StandsAt, TakesBy, Waited, Works, comes_outside, is_outside}

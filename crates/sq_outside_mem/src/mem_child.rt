@@ -1,11 +1,11 @@
 //! `MemChildOut`: the half of a process in memory that is read.
-ghost use Rattle.std.specs.Prelude.{◌≡◌, List, Option, None, length, false, true, OnErr, is_err};
+ghost use Rattle.std.specs.Prelude.{◌≡◌, Option, None, false, true, OnErr, is_err};
 ghost use Rattle.std.specs.Io.{ReadsAtMost};
 ghost use Rattle.std.specs.Io.KnownBytes.{ReadConsumes};
 ghost use Rattle.sq_outside.specs.Calls.{counted};
 ghost use Rattle.sq_outside.specs.Causes.{HasCause};
 ghost use Rattle.sq_outside.specs.Dials.{Origin};
-ghost use Rattle.sq_outside_mem.specs.Memory.{source_left, source_text, source_step, source_fails, source_fails_next, source_faults};
+ghost use Rattle.sq_outside_mem.specs.Memory.{source_step, source_fails, source_fails_next, source_faults};
 
 use crate::mem_source::MemSource;
 use crate::wire::Wire;

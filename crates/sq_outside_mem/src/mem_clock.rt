@@ -1,5 +1,5 @@
 //! `MemClock` and `MemResolver`: a clock and a look-up of names in memory.
-ghost use Rattle.std.specs.Prelude.{◌≡◌, ◌≤◌, [], ◌∷◌, Some, Err, IfOk, IsErrOf, true, false, bytes_eq};
+ghost use Rattle.std.specs.Prelude.{◌≡◌, [], ◌∷◌, Some, Err, IsErrOf, true, bytes_eq};
 ghost use Rattle.std.specs.List.{find};
 ghost use Rattle.std.specs.Option.{option_copied};
 ghost use Rattle.std.proofs.Common.{rules};

@@ -1,11 +1,11 @@
 //! `MemDialer`: a dialer in memory, and the half of its dials that is read.
-ghost use Rattle.std.specs.Prelude.{◌≡◌, ◌+◌, ◌<◌, ◌≤◌, [], ◌∷◌, ◌++◌, ◌&&◌, ◌==◌, false, true, length, vec_len, vec_capacity, Some, IfOk, IfSome, OnErr, OnOk, IfNone, is_err, is_none, position, bytes_eq};
+ghost use Rattle.std.specs.Prelude.{◌≡◌, ◌+◌, ◌<◌, ◌≤◌, [], ◌&&◌, ◌==◌, false, true, length, vec_len, vec_capacity, Some, IfOk, IfSome, OnErr, OnOk, IfNone, is_err, is_none, position, bytes_eq};
 ghost use Rattle.std.specs.Io.{ReadsAtMost};
 ghost use Rattle.std.specs.Io.KnownBytes.{ReadConsumes};
 ghost use Rattle.sq_outside.specs.Calls.{next_call, counted};
-ghost use Rattle.sq_outside.specs.Causes.{HasCause, TakesBack, raised};
+ghost use Rattle.sq_outside.specs.Causes.{HasCause, TakesBack};
 ghost use Rattle.sq_outside_mem.specs.Taking.{TakesFirst};
-ghost use Rattle.sq_outside_mem.specs.Memory.{source_left, source_text, source_gives, source_step, source_fails, source_fails_next, source_calls, source_faults, sink_bytes, sink_faults};
+ghost use Rattle.sq_outside_mem.specs.Memory.{source_left, source_gives, source_step, source_fails, source_fails_next, source_calls, source_faults, sink_bytes, sink_faults};
 
 use crate::mem_out::{MemOut, MemPair};
 use crate::mem_source::MemSource;

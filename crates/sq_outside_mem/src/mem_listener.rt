@@ -1,5 +1,5 @@
 //! `MemListener`: a listener in memory, and what stops it.
-ghost use Rattle.std.specs.Prelude.{◌≡◌, ◌≤◌, ◌<◌, [], ◌∷◌, true, false, map, Some, IfSome, ◌⊎◌};
+ghost use Rattle.std.specs.Prelude.{◌≡◌, ◌<◌, [], true, false, map, Some, ◌⊎◌};
 ghost use Rattle.sq_outside.specs.Calls.{next_call, counted};
 ghost use Rattle.sq_outside_mem.specs.Memory.{source_left, source_faults, sink_bytes, sink_faults};
 

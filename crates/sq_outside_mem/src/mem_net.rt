@@ -1,7 +1,7 @@
 //! `MemNet`: a net in memory.
-ghost use Rattle.std.specs.Prelude.{◌≡◌, ◌≤◌, [], ◌∷◌, ◌||◌, map, None, Some, IfOk, IfSome, OnErr, is_err};
+ghost use Rattle.std.specs.Prelude.{◌≡◌, [], map, None, Some, IfOk, IfSome, OnErr, is_err};
 ghost use Rattle.sq_outside.specs.Calls.{next_call, counted};
-ghost use Rattle.sq_outside.specs.Causes.{HasCause, TakesBack, raised};
+ghost use Rattle.sq_outside.specs.Causes.{HasCause, TakesBack};
 
 use crate::mem_clock::{MemClock, MemResolver};
 use crate::mem_dialer::MemDialer;

@@ -1,5 +1,5 @@
 //! `MemSpawner`: a spawner in memory.
-ghost use Rattle.std.specs.Prelude.{◌≡◌, ◌+◌, ◌<◌, ◌≤◌, [], ◌∷◌, ◌++◌, length, vec_len, vec_capacity, Some, IfOk, IfSome, IfNone, OnErr, OnOk, is_err, is_none, position, map};
+ghost use Rattle.std.specs.Prelude.{◌≡◌, ◌+◌, ◌<◌, ◌≤◌, [], vec_len, vec_capacity, Some, IfOk, IfSome, IfNone, OnErr, OnOk, is_err, is_none, position};
 ghost use Rattle.sq_outside.specs.Calls.{next_call, counted};
 ghost use Rattle.sq_outside.specs.Causes.{HasCause};
 ghost use Rattle.sq_outside_mem.specs.Memory.{source_faults, sink_bytes, sink_faults};

@@ -1,5 +1,5 @@
 //! Generations of buckets, one for an epoch.
-ghost use Rattle.std.specs.Prelude.{◌≡◌, ◌≤◌, ◌<◌, ◌^◌, ◌-◌, ◌==◌, ◌&&◌, ◌||◌, ◌∷◌, [], ℕ, suc, if◌then◌else◌, Some, None, true, is_none, is_some, nat_lt, length, slice_get, OnOk, OnErr, IfOk};
+ghost use Rattle.std.specs.Prelude.{◌≡◌, ◌≤◌, ◌<◌, ◌^◌, ◌-◌, ◌==◌, ◌&&◌, ◌||◌, [], ℕ, suc, if◌then◌else◌, Some, None, true, is_none, is_some, length, OnOk, OnErr, IfOk};
 ghost use Rattle.std.specs.Option.{option_map};
 ghost use Rattle.sq_machine.specs.BucketLevels.{filled_to};
 ghost use Rattle.sq_rules.specs.Limits.{initial_limit, pool_limit};

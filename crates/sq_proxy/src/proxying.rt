@@ -85,7 +85,8 @@ pub fn proxy<R: Threads + Wait + Sync, W: World>(
         → W.F.faults files.new ≡ W.F.faults files.old }
     ensures out_quiet { service_of words.now ≡ None → result.0 ≡ ends.Ok
         → W.O.faults out.new ≡ W.O.faults out.old }
-    ensures files_later { service_of words.now ≡ None → W.F.faults files.old ≤ W.F.faults files.new }
+    ensures files_later { service_of words.now ≡ None
+        → W.F.faults files.old ≤ W.F.faults files.new }
     ensures out_later { service_of words.now ≡ None → W.O.faults out.old ≤ W.O.faults out.new }
     // A command leaves the journal, the control source and the net as they are.
     ensures untouched { service_of words.now ≡ None

@@ -7,7 +7,6 @@ use Rattle.std.specs.Option.{option_map, option_or}
 use Rattle.sq_base.specs.Addresses.{Address}
 use Rattle.sq_base.specs.declared.requests.Field.{Field}
 use Rattle.sq_machine.specs.declared.entries.Event.TheVariants.{Ask, Close, Open}
-use Rattle.sq_machine.specs.declared.entries.Told.{Told}
 use Rattle.sq_machine.specs.declared.entries.Told.TheVariants as told
 use Rattle.sq_machine.specs.declared.refusals.Refusal.TheVariants as refusal
 use Rattle.sq_rules.specs.Configurations.{Configuration}

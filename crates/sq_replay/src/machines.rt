@@ -1,5 +1,5 @@
 //! The machine that a script runs: the engine with its delay pools.
-ghost use Rattle.std.specs.Prelude.{◌≡◌, ◌<◌, ℕ, List, true, max, IfNone, IfOk, IfSome, OnOk, Some};
+ghost use Rattle.std.specs.Prelude.{◌≡◌, ◌<◌, List, true, max, IfNone, IfOk, IfSome, OnOk, Some};
 ghost use Rattle.sq_rules.specs.Configurations.{Configuration, IsConfiguration};
 ghost use Rattle.sq_machine.specs.Entries.{is_row};
 ghost use Rattle.sq_machine.specs.Epochs.{config_of};

@@ -61,7 +61,8 @@ impl SeatedPools {
     ) -> Result<(), WantOfMemory>
         ensures { (nat_lt epoch self.old.addressed.newest
             || is_some (made_in self.old.addressed epoch)) ≡ false
-            → (nat_lt epoch self.old.tagged.newest || is_some (made_in self.old.tagged epoch)) ≡ false
+            → (nat_lt epoch self.old.tagged.newest
+            || is_some (made_in self.old.tagged epoch)) ≡ false
             → OnOk result (AreRenewed self.old self.new epoch config.now.value now) }
     {
         self.pools.renew(alloc, epoch, config, now)?;

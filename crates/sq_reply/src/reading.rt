@@ -1,5 +1,5 @@
 //! Reading of reply lines.
-ghost use Rattle.std.specs.Prelude.{◌≡◌, ◌↔◌, ◌^◌, true, IfOk, IsErrOf, Some, None};
+ghost use Rattle.std.specs.Prelude.{◌≡◌, ◌↔◌, true, IfOk, IsErrOf, Some, None};
 ghost use Rattle.sq_base.specs.Replies.{Answer, result_of, result_in, reply_line_in, without_last_cr, reply_of, have_keys};
 ghost use Rattle.sq_base.specs.ReplyGrammar.{Says};
 ghost use Rattle.sq_reply.specs.Reading.{ReadsAs};

@@ -1,5 +1,5 @@
 //! Requests made of their parts.
-ghost use Rattle.std.specs.Prelude.{◌≡◌, ◌≢◌, ◌↔◌, ◌≤◌, ◌++◌, length, map, take, All, Some, None, IsTrue, IfOk, IfErr, OnOk};
+ghost use Rattle.std.specs.Prelude.{◌≡◌, ◌≢◌, ◌↔◌, ◌≤◌, ◌++◌, length, map, All, Some, None, IsTrue, IfOk, IfErr, OnOk};
 ghost use Rattle.std.specs.List.{flat_map};
 ghost use Rattle.httparse.specs.Spans.{header_bytes, IsWithin, IsHeaderWithin};
 ghost use Rattle.sq_request.specs.Heads.{most_fields, IsWrittenHead, HasRequest, request_with, head_text, field_line};

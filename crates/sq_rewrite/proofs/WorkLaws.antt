@@ -21,7 +21,6 @@ use Rattle.sq_rules.specs.Classes.{Class}
 use Rattle.sq_rewrite.specs.Calls.{Call, Calls, Asked, Acted, Started, StartFailed, Wrote, Died, Took}
 use Rattle.sq_rewrite.specs.Rewritings.{IsInPlaceOf, IsRedirect, MayBecome, chosen, code_by, code_named, is_redirect_code, is_url, new_request, plain_only, redirect_by, redirect_of, request_by, rewriting_by, rewriting_of, value_of}
 use Rattle.sq_rewrite.specs.States.{Answers, IsRun, RewriteState, Rows, RunsOn, after, after_calls, answered_by, ended_in, ended_row, is_of_processes, lost_rows, refusal_at, row_at, rows_after, state_of, take_refusal, with_row}
-use Rattle.sq_rewrite.specs.declared.acts.RewriteAct.{RewriteAct}
 use Rattle.sq_rewrite.specs.declared.acts.RewriteAct.TheVariants as act
 use Rattle.sq_rewrite.specs.declared.faults.RewriteFault.{RewriteFault}
 use Rattle.sq_rewrite.specs.declared.rewritings.Rewriting.{Rewriting}

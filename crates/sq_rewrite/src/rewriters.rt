@@ -1,5 +1,5 @@
 //! `Rewriter`: the processes of a redirector, and the questions to them.
-ghost use Rattle.std.specs.Prelude.{◌≡◌, ◌<◌, [], suc, true, false, not, if◌then◌else◌, Some, None, IfOk, IfErr, IfSome, IfNone, MatchOption, OnOk, OnErr};
+ghost use Rattle.std.specs.Prelude.{◌≡◌, ◌<◌, [], suc, true, false, if◌then◌else◌, Some, None, IfOk, IfErr, IfSome, IfNone, MatchOption, OnOk, OnErr};
 ghost use Rattle.std.specs.Option.{option_map};
 ghost use Rattle.sq_channel.specs.Gots.{names_open};
 ghost use Rattle.sq_farm.specs.Replies.{got_of};

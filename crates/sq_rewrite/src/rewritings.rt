@@ -3,7 +3,7 @@ ghost use Rattle.std.specs.Prelude.{◌≡◌, ◌&&◌, IfOk, bytes_eq, codes};
 ghost use Rattle.std.specs.Char.{is_ascii_graphic};
 ghost use Rattle.std.specs.List.{find, list_all};
 ghost use Rattle.std.specs.Option.{option_copied, option_map};
-ghost use Rattle.sq_rewrite.specs.Rewritings.{MayBecome, chosen, code_by, code_named, is_redirect_code, is_url, new_request, plain_only, question_text, redirect_by, redirect_of, request_by, rewriting_of, value_of};
+ghost use Rattle.sq_rewrite.specs.Rewritings.{MayBecome, chosen, code_by, code_named, is_redirect_code, is_url, new_request, plain_only, question_text, redirect_of, rewriting_of, value_of};
 
 use sq_addr::print_addr;
 use sq_base::{Addr, Cause, Copying, Pair, Reply, Request, Text, WantOfMemory, Word};

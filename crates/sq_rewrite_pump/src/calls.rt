@@ -1,5 +1,5 @@
 //! The calls of a rewriter that its processes make.
-ghost use Rattle.std.specs.Prelude.{◌≡◌, Some};
+ghost use Rattle.std.specs.Prelude.{Some};
 ghost use Rattle.std.specs.declared.option.Option.{Option};
 ghost use Rattle.sq_rewrite.specs.States.{RewriteState};
 ghost use Rattle.sq_rewrite_pump.specs.RewriterCalls.{MakesAct, NotesDeath, NotesFailure, NotesLine, NotesStart, Tells};

@@ -1,5 +1,5 @@
--- Acls of type `dst` with their look-ups: what is made of one stands behind other acls,
--- and stays where other acls change.
+-- Acls of type `dst` with their look-ups: what is made of one stands behind other acls, and stays where other acls
+-- change.
 use Rattle.std.proofs.Common.{◌≡◌, ℕ, ◌+◌, ◌-◌, ◌≤◌, suc, zero, List, [], ◌∷◌, ◌++◌, length, set, take, drop, Bool, true, false, ◌&&◌, ◌||◌, ◌==◌, not, refl, sym, ap, subst, ◌∙◌, arith, Option, Some, None, slice_get, if◌then◌else◌, nat_eq, nat_le}
 use Rattle.std.proofs.lemmas.Bool.{and_from, and_parts}
 use Rattle.std.proofs.lemmas.Bool.Decides.{nat_tests}

@@ -11,7 +11,6 @@ use Rattle.sq_rules.specs.Drafts.{Drafts}
 use Rattle.sq_rules.specs.Limits.{header_limit}
 use Rattle.sq_rules.specs.PoolLines.{fast_term}
 use Rattle.sq_rules.specs.Steps.{WordList, unless, word, some_of}
-use Rattle.sq_rules.specs.declared.headers.HeaderRule.{HeaderRule}
 use Rattle.sq_rules.specs.declared.kinds.Kind.{Kind}
 use Rattle.sq_rules.specs.declared.kinds.Kind.TheVariants.{BadValue, TooMany}
 use Rattle.sq_rules.specs.declared.configs.Rule.{Rule}

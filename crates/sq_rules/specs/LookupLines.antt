@@ -1,7 +1,7 @@
 -- In the statement: docs/STATEMENT.md lists which definitions.
 -- The line `dst_lookup on|off`, which is this program's own: only the first line with words may be
 -- one.
-use Rattle.std.specs.Prelude.{ℕ, List, [], ◌∷◌, Bool, true, false, bytes_eq, codes, Ok}
+use Rattle.std.specs.Prelude.{ℕ, List, [], ◌∷◌, Bool, true, false, bytes_eq, codes}
 use Rattle.std.specs.declared.result.Result.{Result}
 use Rattle.sq_base.specs.NameTables.{beside}
 use Rattle.sq_base.specs.Results.{◌>>=◌}

@@ -1,7 +1,7 @@
 -- In the statement: docs/STATEMENT.md lists which definitions.
 -- Lines `url_rewrite_program` and `url_rewrite_children` (configuration reference,
 -- `url_rewrite_program`, `url_rewrite_children`).
-use Rattle.std.specs.Prelude.{ℕ, List, [], ◌∷◌, Bool, if◌then◌else◌, Some, None, Ok, is_none, codes}
+use Rattle.std.specs.Prelude.{ℕ, List, [], ◌∷◌, if◌then◌else◌, Some, None, Ok, is_none, codes}
 use Rattle.std.specs.List.{before_first, after_first}
 use Rattle.std.specs.declared.option.Option.{Option}
 use Rattle.std.specs.declared.result.Result.{Result}

@@ -1,5 +1,5 @@
 //! What a further line of `acl` changes in its acl.
-ghost use Rattle.std.specs.Prelude.{◌≡◌, ◌++◌, ◌∷◌, [], OnOk, OnErr};
+ghost use Rattle.std.specs.Prelude.{◌≡◌, ◌++◌, [], OnOk, OnErr};
 ghost use Rattle.sq_rules.specs.Drafts.{in_last, joined_leaves, with_leaf, with_line, with_member};
 
 use crate::configs::{Acl, Body, Lines, Term};

@@ -254,7 +254,7 @@ impl AclTable {
     }
 
     /// Which acls ask a helper or reach one that does, where the group at a place has this member too;
-    /// None where they are the same as without it.
+    /// None says that they are the same as without it.
     pub fn slow_with(
         &self,
         alloc: Global,

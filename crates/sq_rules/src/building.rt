@@ -1,5 +1,5 @@
 //! From names to places: the parts of a configuration over the tables of its classes and acls.
-ghost use Rattle.std.specs.Prelude.{◌≡◌, ◌≤◌, ◌∷◌, [], true, false, length, IfOk};
+ghost use Rattle.std.specs.Prelude.{◌≡◌, ◌≤◌, ◌∷◌, [], true, length, IfOk};
 ghost use Rattle.std.specs.List.{list_all};
 ghost use Rattle.sq_rules.specs.Building.{acls_made, body_made, classes_made, completed, each_made, rule_made, term_made, terms_made, IsMade};
 ghost use Rattle.sq_rules.specs.Configurations.{are_known, are_known_bodies, is_known_body, is_known_rule};

@@ -1,5 +1,5 @@
 //! Delay pools and rules for fields over the acls of a configuration: their rules name no acl that asks a helper.
-ghost use Rattle.std.specs.Prelude.{◌≡◌, ◌≤◌, ◌<◌, ◌^◌, ◌∷◌, [], true, false, length, IfOk, slice_index_or};
+ghost use Rattle.std.specs.Prelude.{◌≡◌, ◌≤◌, ◌<◌, ◌∷◌, [], true, false, length, IfOk, slice_index_or};
 ghost use Rattle.std.specs.List.{list_all};
 ghost use Rattle.sq_rules.specs.Building.{each_made, fast_rule_made, fast_term_made, header_made, pool_made, pools_made, IsMade};
 ghost use Rattle.sq_rules.specs.Configurations.{are_known, has_buckets, is_fast_rule, is_header, is_lower, is_pool, is_pool_class, pairs_of, slow_ones, some_slow};

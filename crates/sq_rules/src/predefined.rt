@@ -1,5 +1,5 @@
 //! The acls that stand before the first line of a configuration.
-ghost use Rattle.std.specs.Prelude.{◌≡◌, ◌∷◌, [], IfOk};
+ghost use Rattle.std.specs.Prelude.{◌≡◌, [], IfOk};
 ghost use Rattle.sq_base.specs.Addresses.{v4, v6};
 ghost use Rattle.sq_rules.specs.Predefined.{leaf_part, all_part, connect_part, localhost_part, manager_part, predefined, to_linklocal_part, to_localhost_part};
 

@@ -1,6 +1,6 @@
 //! What is known of acls, where a group of them has a member more. Only where the group itself comes to
 //! nest deeper, or to ask a helper, are the acls behind it looked at again.
-ghost use Rattle.std.specs.Prelude.{◌≡◌, ◌≢◌, ◌<◌, ◌+◌, ◌++◌, ◌∷◌, [], true, false, suc, length, nat_le, IfOk, IfErr, IfSome, take, drop};
+ghost use Rattle.std.specs.Prelude.{◌≡◌, ◌≢◌, ◌<◌, ◌+◌, ◌++◌, ◌∷◌, [], true, false, suc, length, nat_le, IfOk, IfErr, take, drop};
 ghost use Rattle.std.specs.List.{list_all};
 ghost use Rattle.sq_rules.specs.Changes.{is_group, or_before, with_member_at, AreDepths, AreSlowOnes};
 ghost use Rattle.sq_rules.specs.Configurations.{are_shallow, nestings, nestings_on, slow_on, slow_ones};
@@ -56,7 +56,7 @@ fn slow_after(
     Ok(all)
 }
 
-/// Which acls are slow, where the group at a place has this member too; None where they are the same.
+/// Which acls are slow, where the group at a place has this member too; None says that they are the same.
 #[tactic(auto, using(crate::proofs::TableLaws::slow_length))]
 pub fn slow_with(
     alloc: Global,

@@ -74,7 +74,8 @@ impl<N: NetTypes + Send> Tools<N> {
         requires refusals { (blanks.refusals.name ≡ B.refusals.name)
             × (blanks.refusals.parts ≡ B.refusals.parts)
             × (B.refusals.parts ≡ REFUSALS) }
-        requires grants { (blanks.grants.name ≡ B.grants.name) × (blanks.grants.parts ≡ B.grants.parts)
+        requires grants { (blanks.grants.name ≡ B.grants.name)
+            × (blanks.grants.parts ≡ B.grants.parts)
             × (B.grants.parts ≡ workers + workers) }
         ensures legal { IfOk result
             (λ s. IfSome (J.history s.journal)

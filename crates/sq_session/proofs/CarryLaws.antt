@@ -24,7 +24,6 @@ use Rattle.sq_session.specs.declared.ends.Carried.TheVariants.{Closes}
 use Rattle.sq_session.specs.declared.front.Decided.{Decided}
 use Rattle.sq_session.specs.declared.front.Decided.TheVariants as decided
 use Rattle.sq_session.specs.declared.front.Rewritten.{Rewritten}
-use Rattle.sq_session.specs.declared.front.Rewritten.TheVariants as rewritten
 use Rattle.sq_session.proofs.GoesLaws.{goes_as, own_goes, own_turn, cause_map}
 use Rattle.sq_session.proofs.TurnLaws.{told_none}
 use Rattle.sq_forward.specs.Exchanges.{message}

@@ -60,6 +60,9 @@ share_counts a b (Err fault.Stopped) s = (rises a b s, is_raised a b s)
 share_counts a b (Err (fault.Engine r)) s = (rises a b s, is_raised a b s)
 share_counts a b (Err fault.JournalFault) s = (rises a b s, is_raised a b s)
 
+-- a start, and one that failed, of a desk behind a lock, which tells no entries
+pub ruleset untold_start = (untold, unrefused_at, share_counts)
+
 pub share_counts_line : (a b : ℕ) (r : Result Got DeskFault) → SharesLine a b r
     → CountsLine (min a count_limit) (min b count_limit) r
 share_counts_line a b (Ok (got.Reply q x)) s = stays a b s

@@ -1,5 +1,5 @@
 //! Refusals, counted in a book and in a share of it.
-ghost use Rattle.std.specs.Prelude.{◌≡◌, ◌+◌, ◌<◌};
+ghost use Rattle.std.specs.Prelude.{◌≡◌, ◌<◌};
 ghost use Rattle.sq_shared.specs.Books.{SharesLine, SharesMade, SharesRefusal};
 
 use sq_calls::DeskFault;

@@ -1,5 +1,5 @@
 //! The listener, as it lies behind its lock.
-ghost use Rattle.std.specs.Prelude.{◌≡◌, ◌<◌, true, false, IfOk};
+ghost use Rattle.std.specs.Prelude.{◌≡◌, ◌<◌, true, false};
 ghost use Rattle.sq_outside.specs.Dials.{IsOpen};
 ghost use Rattle.sq_outside.specs.World.{IfLink, IfStopped, has_failed};
 

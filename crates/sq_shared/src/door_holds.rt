@@ -1,6 +1,6 @@
 //! The holds of the listener's lock. Nothing is proved here of what lies under it but what its type keeps; each function
 //! takes the lock, makes the one call of its name with the arguments that it was handed, and lets go.
-ghost use Rattle.std.specs.Prelude.{◌≡◌, ◌+◌, ◌<◌, ◌≤◌, true};
+ghost use Rattle.std.specs.Prelude.{◌≡◌, ◌+◌, ◌<◌};
 ghost use Rattle.sq_outside.specs.Dials.{IsOpen};
 ghost use Rattle.sq_outside.specs.World.{IfLink};
 

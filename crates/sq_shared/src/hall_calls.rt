@@ -373,7 +373,8 @@ impl<D: DeskCalls, B: Ledgers> Hall<D, B> {
         ensures made { SharesMade made.old.amount made.new.amount result }
         ensures made_parts { made.new.parts ≡ made.old.parts }
         // Where the share is the whole book's, it tells the number of the epoch.
-        ensures whole { made.old.parts ≡ B.makes.parts → IfOk result (λ e. e ≡ made.new.amount + 1) }
+        ensures whole { made.old.parts ≡ B.makes.parts
+            → IfOk result (λ e. e ≡ made.new.amount + 1) }
         ensures refused { SharesRefusal refused.old.amount refused.new.amount result }
         ensures parts { refused.new.parts ≡ refused.old.parts }
         ensures changes { self.new.changes ≡ one_more self.old.changes }

@@ -55,7 +55,7 @@ impl<'a, R: Wait, D: DeskCalls, B: Ledgers> TellsJournal for LockDesk<'a, R, D, 
 }
 
 impl<'a, R: Wait, D: DeskCalls, B: Ledgers> HelperCalls for LockDesk<'a, R, D, B> {
-    #[tactic(auto, using(crate::proofs::ShareLaws::untold, crate::proofs::ShareLaws::unrefused_at, crate::proofs::ShareLaws::share_counts))]
+    #[tactic(auto, using(crate::proofs::ShareLaws::untold_start))]
     fn started(
         &mut self,
         alloc: Global,
@@ -72,7 +72,7 @@ impl<'a, R: Wait, D: DeskCalls, B: Ledgers> HelperCalls for LockDesk<'a, R, D, B
         gave
     }
 
-    #[tactic(auto, using(crate::proofs::ShareLaws::untold, crate::proofs::ShareLaws::unrefused_at, crate::proofs::ShareLaws::share_counts))]
+    #[tactic(auto, using(crate::proofs::ShareLaws::untold_start))]
     fn start_failed(
         &mut self,
         alloc: Global,

@@ -4,7 +4,7 @@
 //! `ACLPROXY_HELPER_ERRORS` names, or is dropped, since the program's own may be a journal.
 //!
 //! A write waits for nothing, whether the process reads or not. A process that owes an answer for too long is stopped by who reads it.
-ghost use Rattle.std.specs.Prelude.{◌≡◌, ◌≤◌, ◌-◌, ◌^◌, None, IfSome};
+ghost use Rattle.std.specs.Prelude.{◌≡◌, ◌≤◌, ◌-◌, ◌^◌, None};
 
 use crate::again::raise;
 use crate::house::House;

@@ -1,6 +1,6 @@
 //! The world of a server over the system: sockets, programs, names and the clock. It hands out the trusted
 //! adapters, and relies on them alone.
-ghost use Rattle.std.specs.Prelude.{◌≡◌, ◌≤◌, ◌-◌, ◌^◌, nat_lt, None};
+ghost use Rattle.std.specs.Prelude.{◌≤◌, ◌-◌, ◌^◌};
 
 use crate::again::raise;
 use crate::children::RealSpawner;

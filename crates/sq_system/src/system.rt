@@ -1,7 +1,7 @@
 //! Adapters over the system's files and streams: the trusted edge. They tell what std's objects tell.
 ghost use Rattle.std.specs.Prelude.{◌≡◌, ◌-◌, ◌^◌, ◌≤◌, None, Err, IfOk, IsErrOf};
 ghost use Rattle.std.specs.Str.{IsUtf8};
-ghost use Rattle.sq_outside.specs.Causes.{OpenHasCause, raised};
+ghost use Rattle.sq_outside.specs.Causes.{OpenHasCause};
 ghost use Rattle.sq_outside.specs.Told.{GivesText, IsNotTold, Opens};
 
 use crate::again::{raise, read_again, write_again};

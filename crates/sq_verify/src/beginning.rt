@@ -1,6 +1,6 @@
 //! A journal, judged from its beginning.
-ghost use Rattle.std.specs.Prelude.{◌≡◌, ◌≤◌, List, Some, length, IfSome};
-ghost use Rattle.std.specs.Io.KnownBytes.{IsAtEnd, prepend_known};
+ghost use Rattle.std.specs.Prelude.{◌≡◌, ◌≤◌, Some, length, IfSome};
+ghost use Rattle.std.specs.Io.KnownBytes.{prepend_known};
 ghost use Rattle.sq_outside.specs.SourceLines.{lines, total_limit};
 ghost use Rattle.sq_machine.specs.Entries.{History};
 ghost use Rattle.sq_verify.specs.Audits.{Audits, text_of};

@@ -1,5 +1,5 @@
 //! Lines of a journal, read and compared with the machine's.
-ghost use Rattle.std.specs.Prelude.{◌≡◌, ◌<◌, ◌^◌, bytes_eq, IfOk};
+ghost use Rattle.std.specs.Prelude.{◌≡◌, ◌<◌, ◌^◌, IfOk};
 ghost use Rattle.sq_journal.specs.Reading.{ReadsText};
 ghost use Rattle.sq_journal.specs.Journals.{next_number};
 ghost use Rattle.sq_journal_writers.specs.Sinks.{epoch_behind};

@@ -1,6 +1,6 @@
 //! The lines of a journal, judged one after another.
-ghost use Rattle.std.specs.Prelude.{◌≡◌, ◌+◌, ◌-◌, ◌<◌, ◌≤◌, ◌^◌, ◌∷◌, List, true, IfSome};
-ghost use Rattle.std.specs.Io.KnownBytes.{IsAtEnd, prepend_known};
+ghost use Rattle.std.specs.Prelude.{◌≡◌, ◌+◌, ◌-◌, ◌<◌, ◌≤◌, ◌^◌, List, true};
+ghost use Rattle.std.specs.Io.KnownBytes.{prepend_known};
 ghost use Rattle.sq_outside.specs.SourceLines.{lines, total_limit};
 ghost use Rattle.sq_rules.specs.Configurations.{Configuration};
 ghost use Rattle.sq_machine.specs.Entries.{History, is_event};

@@ -42,6 +42,9 @@ share_rises a b (Err fault.Stopped) s = rises a b s
 share_rises a b (Err (fault.Engine r)) s = rises a b s
 share_rises a b (Err fault.JournalFault) s = rises a b s
 
+-- what a call leaves of the share, whether it is refused or not
+pub ruleset hub_refusals = (hub_refuses, hub_fails, share_rises)
+
 -- a question that was asked raised the share of requests
 asked_one : (a b : ℕ) → b ≡ a + 1 → min b count_limit ≡ raised (min a count_limit)
 asked_one a b e = grind arith

@@ -1,5 +1,5 @@
 //! `LockHub`: the engine, the rewriter and the pools behind their locks, as one connection sees them.
-ghost use Rattle.std.specs.Prelude.{◌≡◌, ◌≤◌, ◌<◌, ◌+◌, ◌-◌, ◌^◌, min, None};
+ghost use Rattle.std.specs.Prelude.{◌≡◌, ◌<◌, ◌+◌, ◌-◌, ◌^◌, min, None};
 ghost use Rattle.sq_outside.specs.Causes.{count_limit, raised};
 ghost use Rattle.sq_workers.specs.HubFaults.{hub_fault, hub_gave};
 
@@ -177,7 +177,7 @@ impl<'a, R: Wait, D: DeskCalls, B: Ledgers, C: Clock + Drop> Hub for LockHub<'a,
 
     ghost granted_capped = { λ s. Prim.search arith };
 
-    #[tactic(auto, using(crate::proofs::HubLaws::hub_refuses, crate::proofs::HubLaws::hub_fails, crate::proofs::HubLaws::share_rises))]
+    #[tactic(auto, using(crate::proofs::HubLaws::hub_refusals))]
     fn open(
         &mut self,
         _alloc: Global,
@@ -197,7 +197,7 @@ impl<'a, R: Wait, D: DeskCalls, B: Ledgers, C: Clock + Drop> Hub for LockHub<'a,
         hub_gave(gave)
     }
 
-    #[tactic(auto, using(crate::proofs::HubLaws::hub_refuses, crate::proofs::HubLaws::hub_fails, crate::proofs::HubLaws::share_rises))]
+    #[tactic(auto, using(crate::proofs::HubLaws::hub_refusals))]
     fn close(&mut self, conn: ConnNo) -> Result<(), HubFault> {
         let LockHub {
             rt,
@@ -211,7 +211,7 @@ impl<'a, R: Wait, D: DeskCalls, B: Ledgers, C: Clock + Drop> Hub for LockHub<'a,
         hub_gave(gave)
     }
 
-    #[tactic(auto, using(crate::proofs::HubLaws::hub_refuses, crate::proofs::HubLaws::hub_fails, crate::proofs::HubLaws::share_rises, crate::proofs::HubLaws::hub_asks))]
+    #[tactic(auto, using(crate::proofs::HubLaws::hub_refusals, crate::proofs::HubLaws::hub_asks))]
     fn ask(&mut self, alloc: Global, conn: ConnNo, request: Request) -> Result<CheckNo, HubFault> {
         let LockHub {
             rt,
@@ -230,7 +230,7 @@ impl<'a, R: Wait, D: DeskCalls, B: Ledgers, C: Clock + Drop> Hub for LockHub<'a,
         hub_gave(gave)
     }
 
-    #[tactic(auto, using(crate::proofs::HubLaws::hub_refuses, crate::proofs::HubLaws::hub_fails, crate::proofs::HubLaws::share_rises))]
+    #[tactic(auto, using(crate::proofs::HubLaws::hub_refusals))]
     fn step(&mut self, alloc: Global, check: CheckNo) -> Result<Stepped, HubFault> {
         let LockHub {
             rt,
@@ -245,7 +245,7 @@ impl<'a, R: Wait, D: DeskCalls, B: Ledgers, C: Clock + Drop> Hub for LockHub<'a,
         hub_gave(gave)
     }
 
-    #[tactic(auto, using(crate::proofs::HubLaws::hub_refuses, crate::proofs::HubLaws::hub_fails, crate::proofs::HubLaws::share_rises))]
+    #[tactic(auto, using(crate::proofs::HubLaws::hub_refusals))]
     fn take(&mut self, alloc: Global, check: CheckNo) -> Result<Record, HubFault> {
         let LockHub {
             rt,

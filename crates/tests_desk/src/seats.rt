@@ -1,5 +1,5 @@
 //! Each call of delay pools, made once behind their lock and once of equal pools.
-ghost use Rattle.std.specs.Prelude.{◌≡◌, pos, true};
+ghost use Rattle.std.specs.Prelude.{◌≡◌, pos};
 ghost use Rattle.std.specs.Option.{ForSome};
 ghost use Rattle.sq_pools.specs.Basins.{has_pool, has_tag_pool};
 ghost use Rattle.sq_shared.specs.Books.{AreCounted};

@@ -1,5 +1,5 @@
 //! Cached replies, taken and let go.
-ghost use Rattle.std.specs.Prelude.{◌≡◌, ◌≤◌, ◌<◌, true};
+ghost use Rattle.std.specs.Prelude.{◌≡◌, ◌<◌, true};
 
 use sq_base::{Moment, Pair, Pairs, QuestionNo, Text, Texts, What};
 use sq_cache::{HashSeed, Kept, Taken};

@@ -1,5 +1,4 @@
 //! Lookups that are open, and who waits for them.
-ghost use Rattle.std.specs.Prelude.{◌≡◌};
 
 use sq_base::{CheckNo, QuestionNo, Text};
 use sq_lookup::{Checks, Lookups};

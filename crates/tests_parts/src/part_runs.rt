@@ -1,5 +1,5 @@
 //! A class with its part, whose questions are counted, and its calls as texts.
-ghost use Rattle.std.specs.Prelude.{◌≡◌, false};
+ghost use Rattle.std.specs.Prelude.{◌≡◌};
 
 use sq_base::{
     Cause, CheckNo, Copying, Moment, ProcNo, QuestionNo, Reply, Text, Texts, What, Word,

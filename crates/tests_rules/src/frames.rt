@@ -1,5 +1,5 @@
 //! Rules by a stored place, which goes on from where it stopped, beside the direct evaluation.
-ghost use Rattle.std.specs.Prelude.{◌≡◌, ◌<◌, length};
+ghost use Rattle.std.specs.Prelude.{◌≡◌, ◌<◌};
 ghost use Rattle.std.specs.Arc.{arc_value};
 ghost use Rattle.sq_rules.specs.Facts.{facts_of};
 

@@ -1,5 +1,5 @@
 //! A net in memory whose spawner has a copy with children of its own, and whose resolver fails for hosts without an address.
-ghost use Rattle.std.specs.Prelude.{◌≡◌, ◌≤◌, None};
+ghost use Rattle.std.specs.Prelude.{◌≤◌, None};
 ghost use Rattle.sq_outside.specs.Causes.{count_limit};
 ghost use Rattle.sq_outside_mem.specs.MemoryNet.{net_faults};
 

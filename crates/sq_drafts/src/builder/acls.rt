@@ -1,5 +1,5 @@
 //! Acls: their lines, and what is asked of them.
-ghost use Rattle.std.specs.Prelude.{◌≡◌, ◌∷◌, ◌≤◌, ◌<◌, ◌&&◌, [], true, false, length, nat_lt, slice_index_or, Some, None, IfErr, IfSome, OnOk, OnErr};
+ghost use Rattle.std.specs.Prelude.{◌≡◌, ◌≤◌, ◌<◌, ◌&&◌, [], true, false, length, nat_lt, slice_index_or, Some, None, IfErr, IfSome, OnOk, OnErr};
 ghost use Rattle.sq_rules.specs.Building.{place_of};
 ghost use Rattle.sq_rules.specs.Changes.{type_at, with_member_at};
 ghost use Rattle.sq_rules.specs.Configurations.{are_shallow, slow_ones};

@@ -1,5 +1,5 @@
 //! Acls of type `dst` where the names of hosts are looked up.
-ghost use Rattle.std.specs.Prelude.{◌≡◌, true, false, length, nat_lt, None, IfOk, OnErr, OnOk};
+ghost use Rattle.std.specs.Prelude.{◌≡◌, true, false, nat_lt, None, IfOk, OnErr, OnOk};
 ghost use Rattle.sq_rules.specs.AclLines.{are_free};
 ghost use Rattle.sq_rules.specs.Building.{place_of};
 ghost use Rattle.sq_rules.specs.Drafts.{with_lookup};

@@ -1,5 +1,5 @@
 //! Delay pools.
-ghost use Rattle.std.specs.Prelude.{◌≡◌, ◌≤◌, ◌++◌, ◌∷◌, ◌<◌, [], true, is_some, length, Some, None, IfOk, OnOk, OnErr};
+ghost use Rattle.std.specs.Prelude.{◌≡◌, ◌≤◌, ◌++◌, ◌∷◌, ◌<◌, [], true, is_some, length, Some, None, OnOk, OnErr};
 ghost use Rattle.std.specs.Option.{option_map};
 ghost use Rattle.sq_rules.specs.Configurations.{is_known_rule, is_pool_class, pairs_of, slow_ones};
 ghost use Rattle.sq_rules.specs.Drafts.{is_fast, pool_at, with_pool, with_pools};

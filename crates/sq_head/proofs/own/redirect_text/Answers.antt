@@ -1,4 +1,4 @@
-use Rattle.std.proofs.Common.{◌≡◌, ◌∙◌, ◌++◌, List, [], ℕ, true, codes, ap, append_assoc}
+use Rattle.std.proofs.Common.{◌≡◌, ◌∙◌, ◌++◌, List, ℕ, true, codes, ap, append_assoc}
 use Rattle.sq_head.specs.OwnReplies.{redirect_text}
 use Rattle.sq_head.specs.RequestHeads.{closing_line, crlf}
 use Rattle.sq_head.specs.Statuses.{status_words}

@@ -1,5 +1,4 @@
 use Rattle.std.proofs.Common.{◌≡◌, drop}
-use Rattle.sq_rules.specs.ClassLines.{ClassDraft}
 use Rattle.sq_rules.specs.RewriteLines.{children_step, most_children}
 use Rattle.sq_rules.specs.Steps.{over}
 use Rattle.sq_conf.proofs.class_drafts.ClassDraft.read_children.Given as goal
