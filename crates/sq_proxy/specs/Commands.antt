@@ -13,7 +13,7 @@ use Rattle.sq_rules.specs.ConfText.{conf_result}
 use Rattle.sq_rules.specs.declared.kinds.ConfError.{ConfError}
 use Rattle.sq_journal.specs.EntryText.{written}
 use Rattle.sq_journal.specs.Journals.{journal_text}
-use Rattle.sq_replay.specs.Headline.{IsTrueOrNone}
+use Rattle.sq_replay.specs.Headline.{IsTrue, IsTrueOrNone}
 use Rattle.sq_replay.specs.RunText.{ScriptRun, Shelf, configs_of, run_script, stated}
 use Rattle.sq_rehearse.specs.Rehearsals.{configuration_text, rehearsal}
 use Rattle.sq_rehearse.specs.Summaries.{summary_line}
@@ -240,7 +240,11 @@ RunsTrulyOver files conf_text script_text conf = (config : Configuration) (text 
 -- so it is of the files that `replay` names, where they are there
 abbrev pub RunsTruly : Disk → List (List ℕ) → Type 0
 RunsTruly disk words = (conf script : List ℕ) → command_of words ≡ Some (Replay conf script)
-    → RunsTrulyOver (shelf_of disk) (disk conf) (disk script) conf
+    → (config : Configuration) (text : List ℕ)
+    → conf_stage conf (disk conf) ≡ Ok config → disk script ≡ Some text
+    → ((run_script (shelf_of disk) config (lines text)).history ≡ [])
+    ⊎ IsTrue (configs_of (shelf_of disk) config (lines text))
+    (run_script (shelf_of disk) config (lines text)).history
 
 -- The journal of version 1 of this text was migrated whole, and what was written is within the
 -- limits of a journal: `verify` ends well of what was written exactly where it ends well of what

@@ -14,15 +14,16 @@ use Rattle.sq_machine.specs.Checks.{Asked}
 use Rattle.sq_machine.specs.Entries.{History}
 use Rattle.sq_machine.specs.Epochs.{config_of}
 use Rattle.sq_machine.specs.Machine.{Legal, next, next_at}
-use Rattle.sq_machine.specs.Events.{is_begin}
+use Rattle.sq_machine.specs.Events.{Judgement, is_begin, judgement}
 use Rattle.sq_machine.specs.Next.{gives, nothing}
 use Rattle.sq_machine.specs.Marking.{marked}
-use Rattle.sq_machine.specs.Marks.{Past, entries}
+use Rattle.sq_machine.specs.Marks.{Marked, Past, entries}
 use Rattle.sq_machine.specs.PoolHistories.{Addressed, PoolKind, Tagged, begins_in, pool_event, pool_history, sits_at, sits_by, sits_in}
 use Rattle.sq_machine.specs.PoolReadings.{PoolEntry, PoolHistory, grant_of, in_use, is_grant, seat_of}
 use Rattle.sq_machine.specs.Readings.{current, latest}
 use Rattle.sq_machine.specs.SeatPlaces.{seat_place}
 use Rattle.sq_machine.specs.TakenRecords.{allowed_of, taken_answers}
+use Rattle.sq_model_laws.specs.Faithful.{IsFaithful, IsJudgedSo, JudgedSo}
 use Rattle.sq_model_laws.specs.Given.{EachOf}
 use Rattle.sq_model_laws.proofs.FaithfulLaws.{legal_faithful}
 use Rattle.sq_pools.specs.Flows.{AreGrants}
@@ -161,14 +162,26 @@ pub balanced : (kind : PoolKind) (configs : List Configuration) (h : History) �
 balanced kind configs h legal = λ after before e s b same is. books_balance before e s b
     (place_grants kind configs h after before legal same) is
 
+-- each outcome of a faithful history is judged so
+judged_in : (configs : List Configuration) (p later : Past) (x : Marked) (m : Past) (j : Judgement)
+    → IsFaithful configs p → later ++ (x ∷ m) ≡ p → judgement x.entry.event x.entry.answer ≡ Some j
+    → IsJudgedSo configs m j
+judged_in configs p [] x m j faithful same is =
+    let here : IsFaithful configs (x ∷ m) = subst (IsFaithful configs) (sym same) faithful in
+    subst (JudgedSo configs m) is here.0.judged
+judged_in configs p (y ∷ later) x m j faithful same is =
+    let all : IsFaithful configs (y ∷ (later ++ (x ∷ m))) = subst (IsFaithful configs) (sym same) faithful in
+    judged_in configs (later ++ (x ∷ m)) later x m j all.1 refl is
+
 -- the headline holds of a legal history whose configurations are those of its texts
 pub history_true : (configs : List Configuration) (h : History) → EachOf IsConfiguration configs
     → IsSourcedRun configs h → IsTrue configs h
-history_true configs h good s = record {
+history_true configs h good s = let faithful = legal_faithful configs h good s.reached s.legal in record {
   legal = s.legal;
   sourced = accepted_sourced configs h s.accepted;
   accepted = s.accepted;
-  faithful = legal_faithful configs h good s.reached s.legal;
+  judged = λ later x m j. judged_in configs (marked configs h) later x m j faithful;
+  faithful = faithful;
   granted = λ kind. within_levels kind configs h s.legal;
   balanced = λ kind. balanced kind configs h s.legal;
 }

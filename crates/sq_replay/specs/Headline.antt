@@ -11,11 +11,13 @@ use Rattle.sq_machine.specs.Entries.{History}
 use Rattle.sq_machine.specs.Machine.{Legal}
 use Rattle.sq_machine.specs.BucketLevels.{IsBalanced, Tally}
 use Rattle.sq_machine.specs.Epochs.{config_of}
+use Rattle.sq_machine.specs.Events.{Judgement, judgement}
 use Rattle.sq_machine.specs.Marking.{marked}
+use Rattle.sq_machine.specs.Marks.{Marked, Past}
 use Rattle.sq_machine.specs.PoolHistories.{PoolKind, pool_history}
 use Rattle.sq_machine.specs.PoolReadings.{BucketSpot, PoolEntry, PoolHistory, tally_of}
 use Rattle.sq_machine.specs.Readings.{current}
-use Rattle.sq_model_laws.specs.Faithful.{IsFaithful}
+use Rattle.sq_model_laws.specs.Faithful.{IsFaithful, IsJudgedSo}
 use Rattle.sq_pools.specs.Flows.{GrantsWithin, Lives}
 use Rattle.sq_model_state.specs.Sources.{AreSourced}
 use Rattle.sq_replay.specs.RunText.{Shelf, named_from}
@@ -54,6 +56,10 @@ pub record IsTrue (configs : List Configuration) (h : History) : Type 0 where
   pub accepted : AreAccepted configs h
   -- each outcome is the verdict of the configuration current when its check began, over what it saw
   -- and answers that have their sources
+  pub judged : (later : Past) (x : Marked) (m : Past) (j : Judgement)
+      → later ++ (x ∷ m) ≡ marked configs h → judgement x.entry.event x.entry.answer ≡ Some j
+      → IsJudgedSo configs m j
+  -- and so it is of steps, of questions and their sends, and of seats
   pub faithful : IsFaithful configs (marked configs h)
   -- of pools of either kind, between any two places between which it lives without a break no
   -- bucket grants more than its level and what was restored
