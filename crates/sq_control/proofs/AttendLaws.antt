@@ -16,7 +16,7 @@ use Rattle.sq_control.specs.declared.panel.PanelEnd.TheVariants as ends
 use Rattle.sq_control_reread.specs.Rereading.{Asks, CountsMade, is_answer}
 use Rattle.sq_control_reread.specs.declared.control.Reread.{Reread}
 use Rattle.sq_control_reread.specs.declared.control.Reread.TheVariants as reread
-use Rattle.sq_control.specs.Attending.{AreReread, Attends, CountsEpochs, HasCauses, HasEpoch, IsAccepted, IsFollowed, IsReread, Seen, Streams, counts_made, made_in}
+use Rattle.sq_control.specs.Attending.{AreReread, Attends, CountsEpochs, HasCauses, HasEpoch, IsFollowed, IsReread, Seen, StatesConfiguration, Streams, counts_made, made_in}
 use Rattle.sq_control.specs.Orders.{IsNext, IsOrdered, counts_with, left_with, lines_left, rereads_in}
 use Rattle.sq_control.specs.ControlText.{control_text, listening_text, reread_text, rereads_text}
 use Rattle.sq_control.specs.declared.orders.Order.{Order}
@@ -371,6 +371,6 @@ same_texts t u name v r w e is = subst (λ (x : Texts). IsReread x name v r w) e
 pub asked_of : {K : Type 0} (texts : Texts) (before now : Openings) (name : List ℕ)
     (R : Configuration → Result ℕ DeskFault → Type 0) (old new : K) (r : Reread)
     → Asks texts before now name R old new r
-    → is_answer r ≡ true → IsAccepted texts before now name
+    → is_answer r ≡ true → StatesConfiguration texts before now name
 asked_of texts before now name R old new r (inl x) e = (x.0, x.2)
 asked_of texts before now name R old new r (inr x) e = absurd (let no : true ≡ false = sym e ∙ x.1 in cc)

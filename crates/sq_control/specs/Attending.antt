@@ -37,8 +37,8 @@ pub record Seen : Type 0 where
   pub desk : DeskSeen
 
 -- the text of the file states a configuration
-abbrev pub IsAccepted : Texts → Openings → Openings → List ℕ → Type 0
-IsAccepted texts before now name = (config : Configuration)
+abbrev pub StatesConfiguration : Texts → Openings → Openings → List ℕ → Type 0
+StatesConfiguration texts before now name = (config : Configuration)
     × OfFile texts before now name (States config)
 
 -- what became of one reconfiguration by the file of this name; the desk answered only where the
@@ -48,7 +48,8 @@ pub record IsReread (texts : Texts) (name : List ℕ) (before : Seen) (result : 
   pub adds : Adds texts before.files.opened now.files.opened name before.desk.told now.desk.told
       result
   pub made : CountsMade before.desk.made now.desk.made result
-  pub asked : is_answer result ≡ true → IsAccepted texts before.files.opened now.files.opened name
+  pub asked : is_answer result ≡ true
+      → StatesConfiguration texts before.files.opened now.files.opened name
   pub at : (e : ConfError) → result ≡ reread.At e
       → IsRefused texts before.files.opened now.files.opened name e
   pub missing : result ≡ reread.Missing → IsNotTold texts name

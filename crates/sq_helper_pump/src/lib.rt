@@ -1,4 +1,8 @@
-//! The parts of a server that call a desk.
+//! The pump of helper processes, a turn at a time, and what a desk is handed of one process.
+//!
+//! `ServePump` performs the acts of a desk: it starts programs, writes questions to them, and ends those whose output has ended.
+//! `Reader` is the half of a process that is read, with its number. `ServeLines` hands a desk its lines and its death, each at a
+//! moment of the clock. What a turn did, and at which moment it noted what, its answer says.
 #![tactic(auto)]
 
 mod asking;

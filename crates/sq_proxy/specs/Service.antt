@@ -217,7 +217,7 @@ pub record IsTrueOver (s : Server) (texts : Texts) (before : Openings) (h : Hist
   pub conf : IsConf texts s.conf before begun config
   pub is_true : IsTrueFrom (beginning_of s config) h
 
--- what came of a server by its words, which wrote this line last where it did not end well: by what
+-- what came of a server by its words, which where it did not end well wrote this line last: by what
 -- its world told before and after
 pub record CameTo (line : List ℕ) (s : Server) (texts : Texts) (before now : ServerSeen)
     (history : Option History) (status : Status) : Type 0 where
@@ -241,7 +241,8 @@ pub record CameTo (line : List ℕ) (s : Server) (texts : Texts) (before now : S
   pub journal_later : min before.journal count_limit ≤ now.journal
   pub net_later : before.net ≤ now.net
 
--- the same of one that wrote the last line of its status
+-- what came of a server by its words: where it did not end well, it wrote the last line of its
+-- status
 abbrev pub IsService : Server → Texts → ServerSeen → ServerSeen → Option History → Status → Type 0
 IsService s texts before now history status =
     CameTo (last_line status) s texts before now history status
