@@ -5,7 +5,7 @@ use sq_base::BodyPlan::{self, Chunked, Length, None, ToClose};
 use sq_base::{Text, number_of};
 use sq_body::{BodyCursor, FeedFault};
 use std::alloc::Global;
-use std::test::Fail;
+use std::process::Abort;
 
 /// How far bytes lead: they are a whole body and maybe more, or a part of one, or refused. With it how many
 /// of them were used.
@@ -127,7 +127,7 @@ struct Case {
     end: End,
 }
 
-fn plan_of(word: &str) -> Option<BodyPlan> {
+pub(crate) fn plan_of(word: &str) -> Option<BodyPlan> {
     match word {
         "chunked" => Some(Chunked),
         "close" => Some(ToClose),
@@ -140,34 +140,34 @@ fn plan_of(word: &str) -> Option<BodyPlan> {
 }
 
 /// The end that a row states of an input of so many bytes.
-fn end_of(alloc: Global, written: &str, len: usize) -> Result<End, Fail> {
+fn end_of<R: Abort>(rt: &R, alloc: Global, written: &str, len: usize) -> End {
     match written {
-        "bad" => Ok(Bad),
-        "more" => Ok(Part(len)),
+        "bad" => Bad,
+        "more" => Part(len),
         _ => {
-            let rest = written.strip_prefix("whole").ok_or("no end")?;
-            let rest = text_of(alloc, rest.trim_start())?;
-            Ok(Whole(len.saturating_sub(rest.len())))
+            let rest = written.strip_prefix("whole").expect(rt, "an end");
+            let rest = text_of(rt, alloc, rest.trim_start());
+            Whole(len.saturating_sub(rest.len()))
         }
     }
 }
 
-fn case_of(alloc: Global, row: &str) -> Result<Case, Fail> {
-    let (plan, row) = row.split_once(' ').ok_or("no plan")?;
-    let (out, row) = row.split_once(' ').ok_or("no form")?;
-    let (input, row) = row.split_once(" => ").ok_or("no input")?;
-    let (output, end) = row.split_once(" => ").ok_or("no output")?;
-    let plan = plan_of(plan).ok_or("no plan")?;
-    let input = text_of(alloc, input)?;
-    let output = text_of(alloc, output)?;
-    let end = end_of(alloc, end, input.len())?;
-    Ok(Case {
+fn case_of<R: Abort>(rt: &R, alloc: Global, row: &str) -> Case {
+    let (plan, row) = row.split_once(' ').expect(rt, "a plan");
+    let (out, row) = row.split_once(' ').expect(rt, "a form");
+    let (input, row) = row.split_once(" => ").expect(rt, "an input");
+    let (output, end) = row.split_once(" => ").expect(rt, "an output");
+    let plan = plan_of(plan).expect(rt, "a plan");
+    let input = text_of(rt, alloc, input);
+    let end = end_of(rt, alloc, end, input.len());
+    let output = text_of(rt, alloc, output);
+    Case {
         plan,
         chunked: out == "chunked",
         input,
         output,
         end,
-    })
+    }
 }
 
 /// Into which pieces an input is cut: of so many bytes each; or by the numbers that follow from a seed, of less
@@ -234,46 +234,47 @@ fn feed(
 }
 
 /// Whether these pieces give what a case says.
-fn gives(alloc: Global, case: &Case, cuts: Cuts) -> Result<bool, Fail> {
+fn gives<R: Abort>(rt: &R, alloc: Global, case: &Case, cuts: Cuts) -> bool {
     let mut cursor = BodyCursor::new(alloc, case.plan, case.chunked);
     let mut out = Text::new(alloc);
-    let came = feed(alloc, &mut cursor, case.input.as_bytes(), cuts, &mut out)?;
-    Ok(came == case.end && out == case.output)
+    let came = feed(alloc, &mut cursor, case.input.as_bytes(), cuts, &mut out);
+    came.expect(rt, "memory") == case.end && out == case.output
+}
+
+fn check_cuts<R: Abort>(rt: &R, alloc: Global, row: &str, case: &Case, cuts: Cuts) {
+    assert!(rt; gives(rt, alloc, case, cuts), "{row} {cuts:?}");
+}
+
+fn check_body<R: Abort>(rt: &R, alloc: Global, row: &str, case: &Case) {
+    let len = case.input.len();
+    let (sizes, seeds) = if len < 1000 { (64, 20) } else { (1, 2) };
+    check_cuts(rt, alloc, row, case, Cuts::Each(len));
+    for size in 1..=sizes {
+        check_cuts(rt, alloc, row, case, Cuts::Each(size));
+    }
+    for seed in 1..=seeds {
+        check_cuts(rt, alloc, row, case, Cuts::Short(seed));
+        check_cuts(rt, alloc, row, case, Cuts::Long(seed));
+    }
 }
 
 /// Whole, in pieces of 1 to 64 bytes, and by the seeds from 1 to 20; a long one whole, byte by byte, and by the
 /// seeds 1 and 2.
 #[test]
-fn bodies_give_the_same_in_all_pieces(rt: HostRuntime) -> Result<(), Fail> {
-    let alloc = rt.alloc();
+fn bodies_give_the_same_in_all_pieces(rt: HostRuntime) {
     for row in BODIES.lines() {
-        let case = case_of(alloc, row)?;
-        let len = case.input.len();
-        let (sizes, seeds) = if len < 1000 { (64, 20) } else { (1, 2) };
-        let whole = Cuts::Each(len);
-        assert!(rt; gives(alloc, &case, whole)?, "{row} whole");
-        for size in 1..=sizes {
-            let each = Cuts::Each(size);
-            assert!(rt; gives(alloc, &case, each)?, "{row} {each:?}");
-        }
-        for seed in 1..=seeds {
-            let short = Cuts::Short(seed);
-            assert!(rt; gives(alloc, &case, short)?, "{row} {short:?}");
-            let long = Cuts::Long(seed);
-            assert!(rt; gives(alloc, &case, long)?, "{row} {long:?}");
-        }
+        let case = case_of(&rt, rt.alloc(), row);
+        check_body(&rt, rt.alloc(), row, &case);
     }
-    Ok(())
 }
 
 /// A refused body is refused for good, and nothing more goes out.
 #[test]
-fn a_refusal_stays(rt: HostRuntime) -> Result<(), Fail> {
+fn a_refusal_stays(rt: HostRuntime) {
     let alloc = rt.alloc();
     let mut cursor = BodyCursor::new(alloc, Chunked, true);
     let mut out = Text::new(alloc);
     assert!(rt; cursor.feed(alloc, b"1\r\nxG", &mut out) == Err(FeedFault::BadChunk));
     assert!(rt; cursor.feed(alloc, b"\r\n0\r\n\r\n", &mut out) == Err(FeedFault::BadChunk));
     assert!(rt; out.as_bytes() == b"1\r\nx".as_slice());
-    Ok(())
 }

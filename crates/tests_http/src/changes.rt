@@ -1,15 +1,16 @@
 //! Heads without the lines of some names, redirects, and requests with another target.
 ghost use Rattle.std.specs.Prelude.{nat_le, length, ⊤};
 
-use crate::texts::text_of;
-use sq_base::{Addr, Text};
+use crate::heads::{client, request_of, staying};
+use crate::texts::{maybe_text_of, text_of};
+use sq_base::Text;
 use sq_head::{
-    NameTest, Shape, head_out, head_out_where, read_reply_head, redirect_text,
-    reply_head_out_where, request_plan,
+    NameTest, head_out, head_out_where, read_reply_head, redirect_text, reply_head_out_where,
+    request_plan,
 };
-use sq_request::{head_end, read_request, retarget};
+use sq_request::retarget;
 use std::alloc::Global;
-use std::test::Fail;
+use std::process::Abort;
 
 /// The test that names of at most so many bytes pass.
 #[derive(Clone, Copy)]
@@ -56,89 +57,80 @@ GET http://a/ HTTP/1.1|| > http://b/#c => none
 GET http://a/ HTTP/1.1|| > b:443 => none
 CONNECT a:443 HTTP/1.1|| > http://b/ => none";
 
-fn client() -> Addr {
-    Addr {
-        v6: false,
-        number: 0x0a01_0203,
-    }
-}
-
 /// What goes out of a request's head under a test of names.
-fn request_out(alloc: Global, head: &[u8], test: &Short) -> Result<Text, Fail> {
-    let end = head_end(head).ok_or("no head")?;
-    let request = read_request(alloc, &head[..end])?;
-    let plan = request_plan(&request)?;
-    Ok(head_out_where(alloc, &request, client(), plan, test)?)
+fn request_out<R: Abort>(rt: &R, alloc: Global, head: &[u8], test: &Short) -> Text {
+    let request = request_of(rt, alloc, head);
+    let plan = request_plan(&request).expect(rt, "a plan");
+    head_out_where(alloc, &request, client(), plan, test).expect(rt, "memory")
 }
 
 /// What goes out of a reply's head under a test of names, where the connection stays.
-fn reply_out(alloc: Global, head: &[u8], test: &Short) -> Result<Text, Fail> {
-    let reply = read_reply_head(alloc, head)?;
-    let shape = Shape {
-        chunked: false,
-        closes: false,
-    };
-    Ok(reply_head_out_where(alloc, &reply, shape, test)?)
+fn reply_out<R: Abort>(rt: &R, alloc: Global, head: &[u8], test: &Short) -> Text {
+    let reply = read_reply_head(alloc, head).expect(rt, "a reply");
+    reply_head_out_where(alloc, &reply, staying(), test).expect(rt, "memory")
+}
+
+/// What goes out of a head under a test of names.
+fn tested<R: Abort>(rt: &R, alloc: Global, head: &[u8], test: &Short) -> Text {
+    if head.starts_with(b"HTTP") {
+        reply_out(rt, alloc, head, test)
+    } else {
+        request_out(rt, alloc, head, test)
+    }
+}
+
+fn check_tested<R: Abort>(rt: &R, alloc: Global, row: &str) {
+    let (given, wanted) = row.split_once(" => ").expect(rt, "a head");
+    let (longest, head) = given.split_once(" > ").expect(rt, "a number");
+    let test = Short(longest.parse::<usize>().expect(rt, "a number"));
+    let head = text_of(rt, alloc, head);
+    let out = tested(rt, alloc, head.as_bytes(), &test);
+    assert!(rt; out == text_of(rt, alloc, wanted), "{row}");
 }
 
 #[test]
-fn lines_go_out_by_their_names(rt: HostRuntime) -> Result<(), Fail> {
-    let alloc = rt.alloc();
+fn lines_go_out_by_their_names(rt: HostRuntime) {
     for row in TESTED.lines() {
-        let (given, wanted) = row.split_once(" => ").ok_or("no head")?;
-        let (longest, head) = given.split_once(" > ").ok_or("no number")?;
-        let test = Short(longest.parse::<usize>()?);
-        let head = text_of(alloc, head)?;
-        let out = if head.as_bytes().starts_with(b"HTTP") {
-            reply_out(alloc, head.as_bytes(), &test)?
-        } else {
-            request_out(alloc, head.as_bytes(), &test)?
-        };
-        assert!(rt; out == text_of(alloc, wanted)?, "{row}");
+        check_tested(&rt, rt.alloc(), row);
     }
-    Ok(())
+}
+
+fn check_redirect<R: Abort>(rt: &R, alloc: Global, row: &str) {
+    let (given, wanted) = row.split_once(" => ").expect(rt, "a reply");
+    let (status, url) = given.split_once(' ').expect(rt, "a status");
+    let status = status.parse::<u16>().expect(rt, "a status");
+    assert!(rt; status >= 100 && status <= 999, "{row}");
+    let text = redirect_text(alloc, status, url.as_bytes()).expect(rt, "memory");
+    assert!(rt; text == text_of(rt, alloc, wanted), "{row}");
 }
 
 #[test]
-fn redirects_have_their_bytes(rt: HostRuntime) -> Result<(), Fail> {
-    let alloc = rt.alloc();
+fn redirects_have_their_bytes(rt: HostRuntime) {
     for row in REDIRECTS.lines() {
-        let (given, wanted) = row.split_once(" => ").ok_or("no reply")?;
-        let (status, url) = given.split_once(' ').ok_or("no status")?;
-        let status = status.parse::<u16>()?;
-        if status < 100 || status > 999 {
-            return Err("no status")?;
-        }
-        let text = redirect_text(alloc, status, url.as_bytes())?;
-        assert!(rt; text == text_of(alloc, wanted)?, "{row}");
+        check_redirect(&rt, rt.alloc(), row);
     }
-    Ok(())
 }
 
 /// What goes out of a request's head with another target.
-fn retargeted(alloc: Global, head: &[u8], target: &[u8]) -> Result<Option<Text>, Fail> {
-    let end = head_end(head).ok_or("no head")?;
-    let request = read_request(alloc, &head[..end])?;
-    let plan = request_plan(&request)?;
-    match retarget(alloc, &request, target)? {
-        Some(request) => Ok(Some(head_out(alloc, &request, client(), plan)?)),
-        None => Ok(None),
-    }
+fn retargeted<R: Abort>(rt: &R, alloc: Global, head: &[u8], target: &[u8]) -> Option<Text> {
+    let request = request_of(rt, alloc, head);
+    let plan = request_plan(&request).expect(rt, "a plan");
+    let other = retarget(alloc, &request, target).expect(rt, "memory")?;
+    Some(head_out(alloc, &other, client(), plan).expect(rt, "memory"))
+}
+
+fn check_retargeted<R: Abort>(rt: &R, alloc: Global, row: &str) {
+    let (given, wanted) = row.split_once(" => ").expect(rt, "a head");
+    let (head, target) = given.split_once(" > ").expect(rt, "a target");
+    let wanted = maybe_text_of(rt, alloc, wanted, "none");
+    let head = text_of(rt, alloc, head);
+    let out = retargeted(rt, alloc, head.as_bytes(), target.as_bytes());
+    assert!(rt; out == wanted, "{row}");
 }
 
 #[test]
-fn requests_get_another_target(rt: HostRuntime) -> Result<(), Fail> {
-    let alloc = rt.alloc();
+fn requests_get_another_target(rt: HostRuntime) {
     for row in RETARGETED.lines() {
-        let (given, wanted) = row.split_once(" => ").ok_or("no head")?;
-        let (head, target) = given.split_once(" > ").ok_or("no target")?;
-        let wanted = match wanted {
-            "none" => None,
-            _ => Some(text_of(alloc, wanted)?),
-        };
-        let head = text_of(alloc, head)?;
-        let out = retargeted(alloc, head.as_bytes(), target.as_bytes())?;
-        assert!(rt; out == wanted, "{row}");
+        check_retargeted(&rt, rt.alloc(), row);
     }
-    Ok(())
 }

@@ -1,11 +1,11 @@
 //! The replies of the proxy's own, byte by byte.
-ghost use Rattle.std.specs.Prelude.{◌≡◌, false, IfOk};
+ghost use Rattle.std.specs.Prelude.{◌≡◌, false};
 
 use sq_base::{Cause, Text};
 use sq_head::{Own, denial, error_text};
 use sq_rules::{Outcome, Why};
 use std::alloc::Global;
-use std::test::Fail;
+use std::process::Abort;
 
 /// A reply, and its text; what answers HEAD ends with the empty line.
 static ERRORS: [(Own, &[u8]); 8] = [
@@ -44,61 +44,97 @@ static ERRORS: [(Own, &[u8]); 8] = [
 ];
 
 /// A denial by a fault of this list and cause, in this rule.
-fn by_fault(alloc: Global, acl: &[u8]) -> Result<Outcome, Fail>
-    ensures { IfOk result (λ o. o.allow ≡ false) }
+fn by_fault<R: Abort>(rt: &R, alloc: Global, acl: &[u8]) -> Outcome
+    ensures { result.allow ≡ false }
 {
-    let acl = Text::from_slice(alloc, acl)?;
-    Ok(Outcome {
+    let acl = Text::from_slice(alloc, acl).expect(rt, "memory");
+    Outcome {
         allow: false,
         why: Why::Fault {
             rule: 4_294_967_295,
             acl,
             cause: Cause::NoHelper,
         },
-    })
+    }
+}
+
+fn check_error<R: Abort>(rt: &R, alloc: Global, own: Own, no_body: bool, wanted: &[u8]) {
+    let text = error_text(alloc, own, no_body).expect(rt, "memory");
+    assert!(rt; text.as_bytes() == wanted, "{own:?} {text}");
+}
+
+fn check_denial<R: Abort>(
+    rt: &R,
+    alloc: Global,
+    outcome: &Outcome,
+    no_body: bool,
+    closes: bool,
+    wanted: &[u8],
+)
+    requires { outcome.now.allow ≡ false }
+{
+    let text = denial(alloc, outcome, no_body, closes).expect(rt, "memory");
+    assert!(rt; text.as_bytes() == wanted, "{text}");
+}
+
+/// Checks a denial for this reason.
+fn check_why<R: Abort>(
+    rt: &R,
+    alloc: Global,
+    why: Why,
+    no_body: bool,
+    closes: bool,
+    wanted: &[u8],
+) {
+    let outcome = Outcome { allow: false, why };
+    check_denial(rt, alloc, &outcome, no_body, closes, wanted);
+}
+
+fn check_fault<R: Abort>(rt: &R, alloc: Global, wanted: &[u8]) {
+    let outcome = by_fault(rt, alloc, b"a>b c%-\xff");
+    check_denial(rt, alloc, &outcome, false, false, wanted);
 }
 
 #[test]
-fn own_replies_have_their_bytes(rt: HostRuntime) -> Result<(), Fail> {
+fn own_replies_have_their_bytes(rt: HostRuntime) {
     let alloc = rt.alloc();
     for (own, wanted) in &ERRORS {
-        assert_eq!(rt;
-            error_text(alloc, *own, false)?.as_bytes(),
-            *wanted,
-            "{own:?}"
-        );
+        check_error(&rt, alloc, *own, false, wanted);
     }
-    assert_eq!(rt;
-        error_text(alloc, Own::BadGateway, true)?.as_bytes(),
-        b"HTTP/1.1 502 Bad Gateway\r\nContent-Type: text/plain\r\nContent-Length: 12\r\nConnection: close\r\n\r\n".as_slice()
+    check_error(
+        &rt,
+        alloc,
+        Own::BadGateway,
+        true,
+        b"HTTP/1.1 502 Bad Gateway\r\nContent-Type: text/plain\r\nContent-Length: 12\r\nConnection: close\r\n\r\n",
     );
-    let by_default = Outcome {
-        allow: false,
-        why: Why::Default,
-    };
-    assert_eq!(rt;
-        denial(alloc, &by_default, false, true)?.as_bytes(),
-        b"HTTP/1.1 403 Forbidden\r\nContent-Type: text/plain\r\nContent-Length: 15\r\nConnection: close\r\n\r\ndenied default\n".as_slice()
+    check_why(
+        &rt,
+        alloc,
+        Why::Default,
+        false,
+        true,
+        b"HTTP/1.1 403 Forbidden\r\nContent-Type: text/plain\r\nContent-Length: 15\r\nConnection: close\r\n\r\ndenied default\n",
     );
-    let by_rule = Outcome {
-        allow: false,
-        why: Why::Rule(1),
-    };
-    assert_eq!(rt;
-        denial(alloc, &by_rule, false, false)?.as_bytes(),
-        b"HTTP/1.1 403 Forbidden\r\nContent-Type: text/plain\r\nContent-Length: 14\r\n\r\ndenied rule 1\n".as_slice()
+    check_why(
+        &rt,
+        alloc,
+        Why::Rule(1),
+        false,
+        false,
+        b"HTTP/1.1 403 Forbidden\r\nContent-Type: text/plain\r\nContent-Length: 14\r\n\r\ndenied rule 1\n",
     );
-    let by_none = Outcome {
-        allow: false,
-        why: Why::Empty,
-    };
-    assert_eq!(rt;
-        denial(alloc, &by_none, true, false)?.as_bytes(),
-        b"HTTP/1.1 403 Forbidden\r\nContent-Type: text/plain\r\nContent-Length: 13\r\n\r\n".as_slice()
+    check_why(
+        &rt,
+        alloc,
+        Why::Empty,
+        true,
+        false,
+        b"HTTP/1.1 403 Forbidden\r\nContent-Type: text/plain\r\nContent-Length: 13\r\n\r\n",
     );
-    assert_eq!(rt;
-        denial(alloc, &by_fault(alloc, b"a>b c%-\xff")?, false, false)?.as_bytes(),
-        b"HTTP/1.1 403 Forbidden\r\nContent-Type: text/plain\r\nContent-Length: 50\r\n\r\ndenied fault 4294967295 a%3Eb%20c%25-%FF NoHelper\n".as_slice()
+    check_fault(
+        &rt,
+        alloc,
+        b"HTTP/1.1 403 Forbidden\r\nContent-Type: text/plain\r\nContent-Length: 50\r\n\r\ndenied fault 4294967295 a%3Eb%20c%25-%FF NoHelper\n",
     );
-    Ok(())
 }
