@@ -1,11 +1,9 @@
 //! Lines of a journal: each kind of word in its one spelling, and each event with each of its answers, beside
 //! lines that are close to these.
 
-use sq_base::WantOfMemory;
 use sq_journal::{EntryFault, print_entry, read_entry, read_event};
 use std::alloc::Global;
 use std::process::Abort;
-use std::test::Fail;
 
 /// Lines that are entries, each behind `+ `, and lines close to the one before that are none, each behind `- `.
 static LINES: &str = "\
@@ -191,67 +189,77 @@ static LINES: &str = "\
 ";
 
 /// Ends the process unless the line is an entry, and printed back.
-fn check_right(rt: &impl Abort, alloc: Global, line: &str) -> Result<(), WantOfMemory> {
-    match read_entry(alloc, line.as_bytes()) {
-        Ok(entry) => {
-            let text = print_entry(alloc, &entry)?;
-            assert!(rt; text.as_bytes() == line.as_bytes(), "{line}");
-        }
-        Err(EntryFault::WantOfMemory) => return Err(WantOfMemory),
-        Err(EntryFault::BadEntry) => assert!(rt; false, "{line}"),
-    }
-    Ok(())
+fn check_right<R: Abort>(rt: &R, alloc: Global, line: &str) {
+    let entry = read_entry(alloc, line.as_bytes()).expect(rt, line);
+    let text = print_entry(alloc, &entry).expect(rt, "memory");
+    assert!(rt; text.as_bytes() == line.as_bytes(), "{line}");
 }
 
 /// Ends the process unless the line is no entry.
-fn check_wrong(rt: &impl Abort, alloc: Global, line: &str) -> Result<(), WantOfMemory> {
-    match read_entry(alloc, line.as_bytes()) {
-        Ok(_) => assert!(rt; false, "{line}"),
-        Err(EntryFault::WantOfMemory) => return Err(WantOfMemory),
-        Err(EntryFault::BadEntry) => {}
+fn check_wrong<R: Abort>(rt: &R, alloc: Global, line: &str) {
+    let fault = read_entry(alloc, line.as_bytes()).err();
+    assert!(rt; fault == Some(EntryFault::BadEntry), "{line}");
+}
+
+fn check_row<R: Abort>(rt: &R, alloc: Global, row: &str) {
+    match row.split_at_checked(2) {
+        Some(("+ ", line)) => check_right(rt, alloc, line),
+        Some(("- ", line)) => check_wrong(rt, alloc, line),
+        _ => assert!(rt; row.is_empty(), "{row}"),
     }
-    Ok(())
 }
 
 #[test]
-fn each_entry_has_one_line(rt: HostRuntime) -> Result<(), Fail> {
+fn each_entry_has_one_line(rt: HostRuntime) {
     for row in LINES.split('\n') {
-        match row.split_at_checked(2) {
-            Some(("+ ", line)) => check_right(&rt, rt.alloc(), line)?,
-            Some(("- ", line)) => check_wrong(&rt, rt.alloc(), line)?,
-            _ => assert!(rt; row.is_empty(), "{row}"),
-        }
+        check_row(&rt, rt.alloc(), row);
     }
-    check_wrong(&rt, rt.alloc(), "0 begin 0 => epoch 1\n")?;
-    Ok(())
+    check_wrong(&rt, rt.alloc(), "0 begin 0 => epoch 1\n");
 }
+
+/// Moments and events, with the moment of each, and lines that are none.
+static MOMENTS: &str = "\
+0 begin 0|0\n\
+5 ask 1 GET http://h/ A:b C:|5\n\
+5 act|5\n\
+9223372036854775807 leave 1|9223372036854775807\n\
+9223372036854775808 leave 1|none\n\
+|none\n\
+5|none\n\
+5 step|none\n\
+5 step 1 |none\n\
+5 step 1 => done|none\n\
+5 ask 1 GET http://h/ A|none\n\
+5 grant 1 9223372036854775808|none\n\
+";
 
 // The moment of a moment and an event, where the line is these.
-fn moment_of(alloc: Global, line: &str) -> Result<Option<u64>, WantOfMemory> {
+fn moment_of<R: Abort>(rt: &R, alloc: Global, line: &str) -> Option<u64> {
     match read_event(alloc, line.as_bytes()) {
-        Ok((moment, _event)) => Ok(Some(moment.0)),
-        Err(EntryFault::BadEntry) => Ok(None),
-        Err(EntryFault::WantOfMemory) => Err(WantOfMemory),
+        Ok((moment, _event)) => Some(moment.0),
+        Err(fault) => {
+            assert!(rt; fault == EntryFault::BadEntry, "{line}");
+            None
+        }
     }
 }
 
-#[test]
-fn a_moment_and_an_event_are_read_alone(rt: HostRuntime) -> Result<(), Fail> {
-    for (line, moment) in [
-        ("0 begin 0", Some(0)),
-        ("5 ask 1 GET http://h/ A:b C:", Some(5)),
-        ("5 act", Some(5)),
-        ("9223372036854775807 leave 1", Some(9223372036854775807)),
-        ("9223372036854775808 leave 1", None),
-        ("", None),
-        ("5", None),
-        ("5 step", None),
-        ("5 step 1 ", None),
-        ("5 step 1 => done", None),
-        ("5 ask 1 GET http://h/ A", None),
-        ("5 grant 1 9223372036854775808", None),
-    ] {
-        assert!(rt; moment_of(rt.alloc(), line)? == moment, "{line}");
+// The moment that a row states.
+fn stated<R: Abort>(rt: &R, moment: &str) -> Option<u64> {
+    match moment {
+        "none" => None,
+        _ => Some(moment.parse::<u64>().expect(rt, "a moment")),
     }
-    Ok(())
+}
+
+fn check_moment<R: Abort>(rt: &R, alloc: Global, row: &str) {
+    let (line, moment) = row.split_once('|').expect(rt, "a line");
+    assert!(rt; moment_of(rt, alloc, line) == stated(rt, moment), "{line}");
+}
+
+#[test]
+fn a_moment_and_an_event_are_read_alone(rt: HostRuntime) {
+    for row in MOMENTS.lines() {
+        check_moment(&rt, rt.alloc(), row);
+    }
 }

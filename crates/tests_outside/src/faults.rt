@@ -1,11 +1,10 @@
 //! A job over a net in memory, in which each call of each object fails once.
-use crate::job::End::{Done, Fault};
+use crate::job::End::{self, Done, Fault};
 use crate::job::{Ended, Part, Wires, job, net};
-use sq_base::WantOfMemory;
 use sq_outside_mem::Wire;
 use std::alloc::Global;
+use std::process::Abort;
 use std::sync::atomic::AtomicBool;
-use std::test::Fail;
 
 /// The object, how many calls of it the job makes, and the number of the one that fails.
 type Failing = (Part, u64, u64);
@@ -63,54 +62,78 @@ static CASES: [(Failing, Written, Counts); 19] = [
 ];
 
 /// Runs the job over these wires, where the call of this number of `part` is to fail.
-fn run(alloc: Global, part: Part, call: u64, wires: &Wires) -> Result<Ended, WantOfMemory> {
+fn run<R: Abort>(rt: &R, alloc: Global, part: Part, call: u64, wires: &Wires) -> Ended {
     let names = Vec::new(alloc);
     let word = AtomicBool::new(false);
-    let mut net = net(alloc, part, call, names.as_slice(), &word, wires)?;
-    Ok(job(alloc, &mut net))
+    let mut net = net(rt, alloc, part, call, names.as_slice(), &word, wires);
+    job(rt, alloc, &mut net)
 }
 
-fn has_text(alloc: Global, wire: &Wire, wanted: &[u8]) -> Result<bool, Fail> {
-    let text = wire.text(alloc)?;
-    Ok(text.as_bytes() == wanted)
+fn has_text<R: Abort>(rt: &R, alloc: Global, wire: &Wire, wanted: &[u8]) -> bool {
+    let text = wire.text(alloc).expect(rt, "memory");
+    text.as_bytes() == wanted
 }
 
-fn have_texts(alloc: Global, wires: &Wires, written: Written) -> Result<bool, Fail> {
+fn have_texts<R: Abort>(rt: &R, alloc: Global, wires: &Wires, written: Written) -> bool {
     let (origin, client, child) = written;
-    let to_origin = has_text(alloc, &wires.origin, origin)?;
-    let to_client = has_text(alloc, &wires.client, client)?;
-    let to_child = has_text(alloc, &wires.child, child)?;
-    Ok(to_origin && to_client && to_child)
+    has_text(rt, alloc, &wires.origin, origin)
+        && has_text(rt, alloc, &wires.client, client)
+        && has_text(rt, alloc, &wires.child, child)
 }
 
-fn counts(ended: &Ended) -> Counts {
-    (ended.dialer, ended.net, ended.back)
+/// Ends the process unless the job ends so where the call of this number of `part` is to fail, with this written.
+fn check_job<R: Abort>(
+    rt: &R,
+    alloc: Global,
+    part: Part,
+    call: u64,
+    wires: &Wires,
+    end: End,
+    counts: Counts,
+    written: Written,
+) {
+    let ended = run(rt, alloc, part, call, wires);
+    let is_ended = ended.end == end && (ended.dialer, ended.net, ended.back) == counts;
+    let have_texts = have_texts(rt, alloc, wires, written);
+    assert!(rt; is_ended && have_texts, "at call {call} of {part:?}");
+}
+
+/// Checks the job whose call of this number of `part` fails.
+fn check_fault<R: Abort>(
+    rt: &R,
+    alloc: Global,
+    part: Part,
+    call: u64,
+    written: Written,
+    counts: Counts,
+) {
+    let wires = Wires::new(rt, alloc);
+    check_job(rt, alloc, part, call, &wires, Fault(part), counts, written);
 }
 
 #[test]
-fn jobs_end_by_the_call_that_fails(rt: HostRuntime) -> Result<(), Fail> {
-    for &((part, _, call), written, wanted) in &CASES {
-        let wires = Wires::new(rt.alloc())?;
-        let ended = run(rt.alloc(), part, call, &wires)?;
-        let have_texts = have_texts(rt.alloc(), &wires, written)?;
-        let is_ended = ended.end == Fault(part) && counts(&ended) == wanted;
-        assert!(rt; is_ended && have_texts, "at call {call} of {part:?}");
+fn jobs_end_by_the_call_that_fails(rt: HostRuntime) {
+    for &((part, _, call), written, counts) in &CASES {
+        check_fault(&rt, rt.alloc(), part, call, written, counts);
     }
-    Ok(())
 }
 
 fn are_closed(wires: &Wires) -> bool {
     wires.origin.is_closed() && wires.client.is_closed() && wires.child.is_closed()
 }
 
+/// Checks the job that makes so many calls of `part`, none of which is left to fail.
+fn check_done<R: Abort>(rt: &R, alloc: Global, part: Part, calls: u64) {
+    let wires = Wires::new(rt, alloc);
+    let written: Written = (b"ask a\n", b"hello", b"q\n");
+    let call = calls.saturating_add(1);
+    check_job(rt, alloc, part, call, &wires, Done, (0, 0, 1), written);
+    assert!(rt; are_closed(&wires), "at {part:?}");
+}
+
 #[test]
-fn jobs_end_well_where_no_call_is_left_to_fail(rt: HostRuntime) -> Result<(), Fail> {
+fn jobs_end_well_where_no_call_is_left_to_fail(rt: HostRuntime) {
     for &((part, calls, _), _, _) in &CASES {
-        let wires = Wires::new(rt.alloc())?;
-        let ended = run(rt.alloc(), part, calls.saturating_add(1), &wires)?;
-        let have_texts = have_texts(rt.alloc(), &wires, (b"ask a\n", b"hello", b"q\n"))?;
-        let is_ended = ended.end == Done && counts(&ended) == (0, 0, 1);
-        assert!(rt; is_ended && have_texts && are_closed(&wires), "at {part:?}");
+        check_done(&rt, rt.alloc(), part, calls);
     }
-    Ok(())
 }

@@ -1,10 +1,9 @@
 //! Numbered entries: printed and read back, and lines close to them.
 
-use sq_base::{EpochNo, WantOfMemory};
+use sq_base::EpochNo;
 use sq_journal::{EntryFault, print_numbered, read_entry, read_numbered};
 use std::alloc::Global;
 use std::process::Abort;
-use std::test::Fail;
 
 /// A number, an epoch and an entry's text; the line that they are, and lines close to it that are none.
 #[derive(Clone, Copy)]
@@ -17,19 +16,19 @@ struct Row<'a> {
 }
 
 // Whether the entry, where its numbers can be, is printed as the line.
-fn is_printed(alloc: Global, row: &Row<'_>) -> Result<bool, EntryFault> {
+fn is_printed<R: Abort>(rt: &R, alloc: Global, row: &Row<'_>) -> bool {
     if row.number >= 1 << 63 || row.epoch >= 1 << 63 {
-        return Ok(true);
+        return true;
     }
-    let entry = read_entry(alloc, row.entry.as_bytes())?;
-    let text = print_numbered(alloc, row.number, EpochNo(row.epoch), &entry)?;
-    Ok(text.as_bytes() == row.line.as_bytes())
+    let entry = read_entry(alloc, row.entry.as_bytes()).expect(rt, row.entry);
+    let text = print_numbered(alloc, row.number, EpochNo(row.epoch), &entry).expect(rt, "memory");
+    text.as_bytes() == row.line.as_bytes()
 }
 
 // Whether the line reads back.
-fn is_read(alloc: Global, row: &Row<'_>) -> Result<bool, EntryFault> {
-    let (number, epoch, _) = read_numbered(alloc, row.line.as_bytes())?;
-    Ok(number == row.number && epoch.0 == row.epoch)
+fn is_read<R: Abort>(rt: &R, alloc: Global, row: &Row<'_>) -> bool {
+    let (number, epoch, _) = read_numbered(alloc, row.line.as_bytes()).expect(rt, row.line);
+    number == row.number && epoch.0 == row.epoch
 }
 
 // Whether a line is none.
@@ -41,18 +40,17 @@ fn is_refused(alloc: Global, line: &str) -> bool {
 }
 
 // Ends the process unless the entry is printed as the line, the line reads back, and those close to it do not.
-fn check(rt: &impl Abort, alloc: Global, row: &Row<'_>) -> Result<(), EntryFault> {
-    let is_printed = is_printed(alloc, row)?;
-    let is_read = is_read(alloc, row)?;
+fn check<R: Abort>(rt: &R, alloc: Global, row: &Row<'_>) {
+    let is_printed = is_printed(rt, alloc, row);
+    let is_read = is_read(rt, alloc, row);
     assert!(rt; is_printed && is_read, "{}", row.line);
     for line in row.wrong {
         assert!(rt; is_refused(alloc, line), "{}", line);
     }
-    Ok(())
 }
 
 #[test]
-fn a_numbered_entry_has_one_line(rt: HostRuntime) -> Result<(), Fail> {
+fn a_numbered_entry_has_one_line(rt: HostRuntime) {
     for row in [
         Row {
             number: 5,
@@ -84,11 +82,6 @@ fn a_numbered_entry_has_one_line(rt: HostRuntime) -> Result<(), Fail> {
             ],
         },
     ] {
-        match check(&rt, rt.alloc(), &row) {
-            Ok(()) => {}
-            Err(EntryFault::BadEntry) => assert!(&rt; false, "{}", row.line),
-            Err(EntryFault::WantOfMemory) => Err(WantOfMemory)?,
-        }
+        check(&rt, rt.alloc(), &row);
     }
-    Ok(())
 }

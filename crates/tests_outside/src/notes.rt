@@ -1,14 +1,11 @@
 //! Journals of which each call fails in turn.
 
-use sq_base::WantOfMemory;
-use sq_journal::{EntryFault, read_entry};
+use sq_journal::read_entry;
 use sq_journal_writers::{Journal, MemJournal, SinkJournal};
-use sq_machine::Entry;
 use sq_outside::Failed;
 use sq_outside_mem::MemSink;
 use std::alloc::Global;
 use std::process::Abort;
-use std::test::Fail;
 
 /// Calls of a journal or of its sink, at most.
 const LIMIT: u64 = 200;
@@ -36,93 +33,91 @@ enum Stop {
     Note(usize),
 }
 
-// The entry of a text.
-fn entry_of(alloc: Global, text: &str) -> Result<Option<Entry>, WantOfMemory> {
-    match read_entry(alloc, text.as_bytes()) {
-        Ok(entry) => Ok(Some(entry)),
-        Err(EntryFault::BadEntry) => Ok(None),
-        Err(EntryFault::WantOfMemory) => Err(WantOfMemory),
-    }
-}
-
 // Notes the entries, each in a place that is made for it, up to the first call that fails.
-fn note_all<J: Journal>(
-    rt: &impl Abort,
-    alloc: Global,
-    journal: &mut J,
-) -> Result<Stop, WantOfMemory> {
+fn note_all<J: Journal, R: Abort>(rt: &R, alloc: Global, journal: &mut J) -> Stop {
     for (i, text) in ENTRIES.iter().enumerate() {
-        let Some(entry) = entry_of(alloc, text)? else {
-            assert!(rt; false, "{}", text);
-            return Ok(Stop::End);
-        };
         if journal.reserve(1).is_err() {
-            return Ok(Stop::Reserve(i));
+            return Stop::Reserve(i);
         }
+        let entry = read_entry(alloc, text.as_bytes()).expect(rt, text);
         if journal.note(entry).is_err() {
-            return Ok(Stop::Note(i));
+            return Stop::Note(i);
         }
     }
-    Ok(Stop::End)
+    Stop::End
 }
 
 // The list of one call.
-fn one(alloc: Global, call: u64) -> Result<Vec<u64>, WantOfMemory> {
-    Ok(Vec::from_slice(alloc, &[call])?)
+fn one<R: Abort>(rt: &R, alloc: Global, call: u64) -> Vec<u64> {
+    Vec::from_slice(alloc, &[call]).expect(rt, "memory")
+}
+
+// How far the entries are noted in a journal of which these notes fail, and which has no memory at these calls; and how
+// many entries it has then.
+fn noted<R: Abort>(rt: &R, alloc: Global, fails: Vec<u64>, lacks: Vec<u64>) -> (Stop, usize) {
+    let mut journal = MemJournal::new(alloc, 4, fails, lacks).expect(rt, "memory");
+    let stop = note_all(rt, alloc, &mut journal);
+    (stop, journal.entries().len())
+}
+
+// The entries before call `k` are noted, where it is a note that fails, or a place that is not made.
+fn check_call<R: Abort>(rt: &R, alloc: Global, k: usize) {
+    let last = k > ENTRIES.len();
+    let before = k.saturating_sub(1);
+    let failing = noted(rt, alloc, one(rt, alloc, k as u64), Vec::new(alloc));
+    let wanted = if last { Stop::End } else { Stop::Note(before) };
+    assert!(rt; failing == (wanted, before), "note {}", k);
+    let wanting = noted(rt, alloc, Vec::new(alloc), one(rt, alloc, k as u64));
+    let wanted = if last {
+        Stop::End
+    } else {
+        Stop::Reserve(before)
+    };
+    assert!(rt; wanting == (wanted, before), "place {}", k);
 }
 
 #[test]
-fn the_entries_before_a_call_that_fails_are_noted(rt: HostRuntime) -> Result<(), Fail> {
-    let alloc = rt.alloc();
+fn the_entries_before_a_call_that_fails_are_noted(rt: HostRuntime) {
     for k in 1..=ENTRIES.len() + 1 {
-        let last = k > ENTRIES.len();
-        let mut failing = MemJournal::new(alloc, 4, one(alloc, k as u64)?, Vec::new(alloc))?;
-        let stop = note_all(&rt, alloc, &mut failing)?;
-        let wanted = if last { Stop::End } else { Stop::Note(k - 1) };
-        assert!(rt;
-            stop == wanted && failing.entries().len() == k - 1,
-            "note {}",
-            k
-        );
-        let mut wanting = MemJournal::new(alloc, 4, Vec::new(alloc), one(alloc, k as u64)?)?;
-        let stop = note_all(&rt, alloc, &mut wanting)?;
-        let wanted = if last {
-            Stop::End
-        } else {
-            Stop::Reserve(k - 1)
-        };
-        assert!(rt;
-            stop == wanted && wanting.entries().len() == k - 1,
-            "place {}",
-            k
-        );
+        check_call(&rt, rt.alloc(), k);
     }
-    Ok(())
+}
+
+// How far the entries are noted. Nothing is written after the fault.
+fn stop_of<R: Abort>(rt: &R, alloc: Global, journal: &mut SinkJournal<MemSink>) -> Stop {
+    let stop = note_all(rt, alloc, journal);
+    if stop != Stop::End {
+        let again = note_all(rt, alloc, journal);
+        assert!(rt; again == Stop::Note(0));
+    }
+    stop
+}
+
+// What a sink took is a front of the journal, and all of it where the entries were noted to the end.
+fn check_front<R: Abort>(rt: &R, k: u64, stop: Stop, bytes: &[u8]) {
+    assert!(rt; JOURNAL.as_bytes().starts_with(bytes), "call {}", k);
+    let is_whole = bytes.len() == JOURNAL.len();
+    assert!(rt; (stop == Stop::End) == is_whole, "call {}", k);
+}
+
+// Whether the entries are noted to the end over a sink of which call `k` fails.
+fn is_noted<R: Abort>(rt: &R, alloc: Global, k: u64) -> bool {
+    let sink = MemSink::new(alloc, 4096, 7, one(rt, alloc, k)).expect(rt, "memory");
+    let mut journal = SinkJournal::new(sink);
+    let stop = stop_of(rt, alloc, &mut journal);
+    let sink = journal.into_sink();
+    check_front(rt, k, stop, sink.bytes());
+    stop == Stop::End
 }
 
 #[test]
-fn a_sink_that_fails_has_a_front_of_the_journal(rt: HostRuntime) -> Result<(), Fail> {
-    let alloc = rt.alloc();
+fn a_sink_that_fails_has_a_front_of_the_journal(rt: HostRuntime) {
     let mut done = false;
     for k in 1..=LIMIT {
-        let sink = MemSink::new(alloc, 4096, 7, one(alloc, k)?)?;
-        let mut journal = SinkJournal::new(sink);
-        let stop = note_all(&rt, alloc, &mut journal)?;
-        if stop != Stop::End {
-            // Nothing is written after the fault.
-            let again = note_all(&rt, alloc, &mut journal)?;
-            assert!(rt; again == Stop::Note(0));
-        }
-        let sink = journal.into_sink();
-        let bytes = sink.bytes();
-        assert!(rt; JOURNAL.as_bytes().starts_with(bytes), "call {}", k);
-        let is_whole = bytes.len() == JOURNAL.len();
-        assert!(rt; (stop == Stop::End) == is_whole, "call {}", k);
-        if stop == Stop::End {
+        if is_noted(&rt, rt.alloc(), k) {
             done = true;
             break;
         }
     }
     assert!(rt; done, "the journal was never written whole");
-    Ok(())
 }
