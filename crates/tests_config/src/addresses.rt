@@ -4,7 +4,6 @@ use sq_addr::{print_addr, read_addr, read_range, read_v4, read_v6};
 use sq_base::Addr;
 use std::alloc::Global;
 use std::process::Abort;
-use std::test::Fail;
 
 /// Addresses of IPv4, and what is printed of them.
 static V4: [(u32, &str); 3] = [
@@ -42,31 +41,46 @@ static V6: [(u128, &str); 15] = [
 static NO_ADDRESSES: [&str; 5] = ["", " 1.2.3.4", "1.2.3.4 ", "::1 ", "::1/128"];
 
 /// Ends the process unless this text alone is printed of the address, and spells it.
-fn check(rt: &impl Abort, alloc: Global, addr: Addr, text: &str) -> Result<(), Fail> {
-    let printed = print_addr(alloc, addr)?;
+fn check<R: Abort>(rt: &R, alloc: Global, addr: Addr, text: &str) {
+    let printed = print_addr(alloc, addr).expect(rt, "memory");
     let is_printed = printed.as_bytes() == text.as_bytes();
     let is_read = read_addr(text.as_bytes()) == Ok(addr);
     assert!(rt; is_printed && is_read, "at {text}");
-    Ok(())
+}
+
+fn check_v4<R: Abort>(rt: &R, alloc: Global, number: u32, text: &str) {
+    let addr = Addr {
+        v6: false,
+        number: number as u128,
+    };
+    check(rt, alloc, addr, text);
+    assert!(rt; read_v4(text.as_bytes()) == Some(number), "at {text}");
+}
+
+fn check_v6<R: Abort>(rt: &R, alloc: Global, number: u128, text: &str) {
+    check(rt, alloc, Addr { v6: true, number }, text);
+    assert!(rt; read_v6(text.as_bytes()) == Some(number), "at {text}");
+}
+
+fn check_none<R: Abort>(rt: &R, text: &str) {
+    assert!(rt; read_addr(text.as_bytes()).is_err(), "at {text}");
+}
+
+fn check_no_range<R: Abort>(rt: &R, text: &[u8]) {
+    assert!(rt; read_range(text).is_err());
 }
 
 #[test]
-fn addresses_have_one_printed_text_which_spells_them(rt: HostRuntime) -> Result<(), Fail> {
+fn addresses_have_one_printed_text_which_spells_them(rt: HostRuntime) {
     for &(number, text) in &V4 {
-        let addr = Addr {
-            v6: false,
-            number: number as u128,
-        };
-        check(&rt, rt.alloc(), addr, text)?;
-        assert!(rt; read_v4(text.as_bytes()) == Some(number), "at {text}");
+        check_v4(&rt, rt.alloc(), number, text);
     }
     for &(number, text) in &V6 {
-        check(&rt, rt.alloc(), Addr { v6: true, number }, text)?;
-        assert!(rt; read_v6(text.as_bytes()) == Some(number), "at {text}");
+        check_v6(&rt, rt.alloc(), number, text);
     }
     for text in &NO_ADDRESSES {
-        assert!(rt; read_addr(text.as_bytes()).is_err(), "at {text}");
+        check_none(&rt, text);
     }
-    assert!(rt; read_range(b"").is_err() && read_range(b"all ").is_err());
-    Ok(())
+    check_no_range(&rt, b"");
+    check_no_range(&rt, b"all ");
 }

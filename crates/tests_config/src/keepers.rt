@@ -1,12 +1,12 @@
 //! What a keeper reads of a helper's process, and hands to a desk.
 use crate::fixtures::long_text;
 use KeeperEnd::{Ended, ReadFault, Told};
-use sq_base::{ProcNo, Text};
+use sq_base::{ProcNo, Text, WantOfMemory};
 use sq_keeper::{Handed, KeeperEnd, MemDesk, read_lines};
 use sq_outside_mem::MemSource;
 use std::alloc::Global;
+use std::process::Abort;
 use std::sync::Wait;
-use std::test::Fail;
 
 /// A process that writes these bytes, of which a read gives at most `step`, and the listed reads fail;
 /// and a desk that ends the reading at the line behind `wants` others, and has no memory at the listed
@@ -136,77 +136,90 @@ static CASES: [(Case, Outcome); 11] = [
     ),
 ];
 
-fn put(shown: &mut Text, proc: ProcNo, what: &[u8]) -> Result<(), Fail> {
+fn put(shown: &mut Text, proc: ProcNo, what: &[u8]) -> Result<(), WantOfMemory> {
     if proc != ProcNo(7) {
         shown.append(b"!another ")?;
     }
     shown.append(what)?;
-    shown.append(b"|")?;
+    shown.append(b"|")
+}
+
+fn put_one(shown: &mut Text, one: &Handed) -> Result<(), WantOfMemory> {
+    match one {
+        Handed::Line(proc, line) => put(shown, *proc, line.as_bytes()),
+        Handed::Stop(proc) => put(shown, *proc, b"!stop"),
+        Handed::Died(proc) => put(shown, *proc, b"!died"),
+    }
+}
+
+fn put_all(shown: &mut Text, handed: &[Handed]) -> Result<(), WantOfMemory> {
+    for one in handed {
+        put_one(shown, one)?;
+    }
     Ok(())
 }
 
 /// What the desk was handed of process 7, as the table writes it down.
-fn shown(alloc: Global, handed: &[Handed]) -> Result<Text, Fail> {
+fn shown<R: Abort>(rt: &R, alloc: Global, handed: &[Handed]) -> Text {
     let mut shown = Text::new(alloc);
-    for one in handed {
-        match one {
-            Handed::Line(proc, line) => put(&mut shown, *proc, line.as_bytes())?,
-            Handed::Stop(proc) => put(&mut shown, *proc, b"!stop")?,
-            Handed::Died(proc) => put(&mut shown, *proc, b"!died")?,
-        }
-    }
-    Ok(shown)
+    put_all(&mut shown, handed).expect(rt, "memory");
+    shown
 }
 
-/// How a keeper ends that reads this source, and what the desk is handed.
-fn kept<R: Wait + Sync>(
+fn check_handed<R: Abort>(rt: &R, alloc: Global, desk: &MemDesk, wanted: &[u8]) {
+    let handed = desk.handed().expect(rt, "all that was handed");
+    let shown = shown(rt, alloc, handed);
+    assert!(rt; shown.as_bytes() == wanted, "at {wanted:?}");
+}
+
+/// Ends the process unless a keeper that reads this source ends so, and the desk is handed this.
+fn check_kept<R: Abort + Wait + Sync>(
     rt: &R,
     alloc: Global,
     source: &mut MemSource,
     desk: &mut MemDesk,
-) -> Result<(KeeperEnd, Text), Fail> {
+    end: KeeperEnd,
+    wanted: &[u8],
+) {
     let ended = read_lines(rt, alloc, source, ProcNo(7), desk);
-    let handed = desk.handed().ok_or("not all was kept")?;
-    let shown = shown(alloc, handed)?;
-    Ok((ended, shown))
+    assert!(rt; ended == end, "at {wanted:?}");
+    check_handed(rt, alloc, desk, wanted);
 }
 
-fn kept_of<R: Wait + Sync>(rt: &R, alloc: Global, case: &Case) -> Result<(KeeperEnd, Text), Fail> {
-    let text = Vec::from_slice(alloc, case.written)?;
-    let fails = Vec::from_slice(alloc, case.fails)?;
-    let lacks = Vec::from_slice(alloc, case.lacks)?;
-    let mut source = MemSource::new(text, case.step, fails);
-    let mut desk = MemDesk::new(alloc, case.wants, lacks);
-    kept(rt, alloc, &mut source, &mut desk)
-}
-
-#[test]
-fn keepers_hand_on_lines_and_then_one_death(rt: HostRuntime) -> Result<(), Fail> {
-    for (case, (end, handed)) in &CASES {
-        let (ended, shown) = kept_of(&rt, rt.alloc(), case)?;
-        assert!(rt;
-            ended == *end && shown.as_bytes() == *handed,
-            "at {handed:?}"
-        );
-    }
-    Ok(())
-}
-
-fn kept_long<R: Wait + Sync>(
+fn check_case<R: Abort + Wait + Sync>(
     rt: &R,
     alloc: Global,
-    written: Text,
-) -> Result<(KeeperEnd, Text), Fail> {
-    let mut source = MemSource::new(written.into_vec(), 5000, Vec::new(alloc));
-    let mut desk = MemDesk::new(alloc, 9, Vec::new(alloc));
-    kept(rt, alloc, &mut source, &mut desk)
+    case: &Case,
+    end: KeeperEnd,
+    wanted: &[u8],
+) {
+    let text = Vec::from_slice(alloc, case.written).expect(rt, "memory");
+    let fails = Vec::from_slice(alloc, case.fails).expect(rt, "memory");
+    let mut source = MemSource::new(text, case.step, fails);
+    let lacks = Vec::from_slice(alloc, case.lacks).expect(rt, "memory");
+    let mut desk = MemDesk::new(alloc, case.wants, lacks);
+    check_kept(rt, alloc, &mut source, &mut desk, end, wanted);
 }
 
 #[test]
-fn keepers_hand_on_65537_bytes_of_a_longer_line(rt: HostRuntime) -> Result<(), Fail> {
-    let written = long_text(rt.alloc(), b"OK\nOK ", 65535, b"\n")?;
-    let (ended, shown) = kept_long(&rt, rt.alloc(), written)?;
-    let wanted = long_text(rt.alloc(), b"OK|OK ", 65534, b"|!died|")?;
-    assert!(rt; ended == Ended && shown == wanted);
-    Ok(())
+fn keepers_hand_on_lines_and_then_one_death(rt: HostRuntime) {
+    for (case, (end, handed)) in &CASES {
+        check_case(&rt, rt.alloc(), case, *end, handed);
+    }
+}
+
+#[test]
+fn keepers_hand_on_65537_bytes_of_a_longer_line(rt: HostRuntime) {
+    let wanted = long_text(&rt, rt.alloc(), b"OK|OK ", 65534, b"|!died|");
+    let written = long_text(&rt, rt.alloc(), b"OK\nOK ", 65535, b"\n");
+    let mut source = MemSource::new(written.into_vec(), 5000, Vec::new(rt.alloc()));
+    let mut desk = MemDesk::new(rt.alloc(), 9, Vec::new(rt.alloc()));
+    check_kept(
+        &rt,
+        rt.alloc(),
+        &mut source,
+        &mut desk,
+        Ended,
+        wanted.as_bytes(),
+    );
 }

@@ -1,8 +1,8 @@
 //! Texts of squid.conf, and their lines as numbered words.
-use sq_base::{Line, LineFault, Text, Texts};
+use sq_base::{Line, LineFault, Text, Texts, WantOfMemory};
 use sq_lex::{lex, words};
 use std::alloc::Global;
-use std::test::Fail;
+use std::process::Abort;
 
 /// Texts, their lines before the first fault as `number word|word|` and LF, and the number of the first line
 /// that is no UTF-8, or 0. Further ones of these are shown by `cases/lines.txt`, lines that are too long by
@@ -56,24 +56,27 @@ static TEXTS: [(&[u8], &[u8], u32); 38] = [
     (b"a\n\nb \\\n c \\\n\xe2\x82\nd", b"1 a|\n", 3),
 ];
 
-fn put_words(shown: &mut Text, words: &Texts) -> Result<(), Fail> {
+fn put_words(shown: &mut Text, words: &Texts) -> Result<(), WantOfMemory> {
     for word in words.as_slice() {
         shown.append(word.as_bytes())?;
         shown.append(b"|")?;
     }
-    Ok(())
+    shown.append(b"\n")
+}
+
+fn put_number<R: Abort>(rt: &R, alloc: Global, shown: &mut Text, number: u32) {
+    let number = format!(in alloc; "{} ", number).expect(rt, "memory");
+    shown.append(number.as_bytes()).expect(rt, "memory");
 }
 
 /// The lines as the table writes them down.
-fn shown(alloc: Global, lines: &[Line]) -> Result<Text, Fail> {
+fn shown<R: Abort>(rt: &R, alloc: Global, lines: &[Line]) -> Text {
     let mut shown = Text::new(alloc);
     for line in lines {
-        let number = format!(in alloc; "{} ", line.number)?;
-        shown.append(number.as_bytes())?;
-        put_words(&mut shown, &line.words)?;
-        shown.append(b"\n")?;
+        put_number(rt, alloc, &mut shown, line.number);
+        put_words(&mut shown, &line.words).expect(rt, "memory");
     }
-    Ok(shown)
+    shown
 }
 
 /// The fault of this line, unless it is 0.
@@ -85,18 +88,24 @@ fn fault_at(line: u32) -> Option<LineFault> {
     }
 }
 
+/// Ends the process unless the text is cut into these lines before this fault.
+fn check_lines<R: Abort>(rt: &R, alloc: Global, text: &[u8], lines: &[u8], fault: u32) {
+    assert!(rt; text.len() < 1 << 30);
+    let lexed = lex(alloc, text).expect(rt, "memory");
+    let shown = shown(rt, alloc, lexed.lines.as_slice());
+    let is_so = shown.as_bytes() == lines && lexed.fault == fault_at(fault);
+    assert!(rt; is_so, "at {text:?}");
+}
+
+fn check_words<R: Abort>(rt: &R, alloc: Global, text: &[u8], are_words: bool) {
+    assert!(rt; text.len() < 1 << 30);
+    assert!(rt; words(alloc, text).is_ok() == are_words, "at {text:?}");
+}
+
 #[test]
-fn texts_have_these_lines_before_this_fault(rt: HostRuntime) -> Result<(), Fail> {
+fn texts_have_these_lines_before_this_fault(rt: HostRuntime) {
     for &(text, lines, fault) in &TEXTS {
-        assert!(rt; text.len() < 1 << 30);
-        let lexed = lex(rt.alloc(), text)?;
-        let shown = shown(rt.alloc(), lexed.lines.as_slice())?;
-        assert!(rt; shown.as_bytes() == lines, "at {text:?}");
-        assert!(rt; lexed.fault == fault_at(fault), "at {text:?}");
-        assert!(rt;
-            words(rt.alloc(), text).is_ok() == (fault == 0),
-            "at {text:?}"
-        );
+        check_lines(&rt, rt.alloc(), text, lines, fault);
+        check_words(&rt, rt.alloc(), text, fault == 0);
     }
-    Ok(())
 }

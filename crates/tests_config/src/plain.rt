@@ -1,17 +1,18 @@
 //! The plain types: numbers, texts, lists, answers, copies and the counter of steps.
-ghost use Rattle.std.specs.Prelude.{◌≡◌, ◌+◌, ◌<◌, IfOk};
+ghost use Rattle.std.specs.Prelude.{◌≡◌, ◌+◌, ◌<◌};
 
+use crate::fixtures::text_of;
 use sq_base::{
     Addr, Answer, Answers, Cause, Copying, Field, Listed, Moment, Pair, Pairs, QuestionNo, Range,
-    Reply, Steps, Text, WantOfMemory, What, Word, number_of,
+    Reply, Steps, Text, What, Word, number_of,
 };
 use std::alloc::Global;
 use std::cmp::Ordering;
 use std::collections::HashMap;
 use std::convert::AsSlice;
 use std::marker::Brand;
+use std::process::Abort;
 use std::sync::ledger::{Blank, Ledger};
-use std::test::Fail;
 
 /// Words, limits, and the number below the limit that the word is.
 static NUMBERS: [(&[u8], u64, Option<u64>); 22] = [
@@ -51,18 +52,22 @@ static NUMBERS: [(&[u8], u64, Option<u64>); 22] = [
     (b"1:", 100, None),
 ];
 
+fn check_number<R: Abort>(rt: &R, word: &[u8], limit: u64, number: Option<u64>) {
+    assert!(rt; number_of(word, limit) == number, "at {word:?}, {limit}");
+}
+
 #[test]
 fn words_are_these_numbers_below_a_limit(rt: HostRuntime) {
     for &(word, limit, number) in &NUMBERS {
-        assert!(rt; number_of(word, limit) == number, "at {word:?}, {limit}");
+        check_number(&rt, word, limit, number);
     }
 }
 
-fn abc(alloc: Global) -> Result<Text, WantOfMemory> {
+fn abc<R: Abort>(rt: &R, alloc: Global) -> Text {
     let mut text = Text::new(alloc);
-    text.push(b'a')?;
-    text.append(b"bc")?;
-    Ok(text)
+    text.push(b'a').expect(rt, "memory");
+    text.append(b"bc").expect(rt, "memory");
+    text
 }
 
 fn is_abc(text: &Text) -> bool {
@@ -72,18 +77,16 @@ fn is_abc(text: &Text) -> bool {
         && !text.is_empty()
 }
 
-fn is_compared(alloc: Global, text: &Text) -> Result<bool, WantOfMemory> {
-    let mut same = Text::from_slice(alloc, b"abc")?;
-    let is_equal = *text == same && text.partial_cmp(&same) == Some(Ordering::Equal);
-    same.push(b'd')?;
-    Ok(is_equal && *text != same && text.cmp(&same) == Ordering::Less)
+fn is_compared<R: Abort>(rt: &R, text: &Text, same: &mut Text) -> bool {
+    let is_equal = *text == *same && text.partial_cmp(same) == Some(Ordering::Equal);
+    same.push(b'd').expect(rt, "memory");
+    is_equal && *text != *same && text.cmp(same) == Ordering::Less
 }
 
-/// Whether a map finds the text, and not another one.
-fn is_found(alloc: Global, text: Text, same: &Text, other: &Text) -> Result<bool, Fail> {
-    let mut places = HashMap::new(alloc);
-    places.insert(text, 7)?;
-    Ok(places.get(same) == Some(&7) && places.get(other) == None)
+fn check_compared<R: Abort>(rt: &R, alloc: Global) {
+    let text = abc(rt, alloc);
+    let mut same = text_of(rt, alloc, b"abc");
+    assert!(rt; is_compared(rt, &text, &mut same) && is_abc(&text));
 }
 
 fn is_given_back(text: Text) -> bool {
@@ -93,35 +96,36 @@ fn is_given_back(text: Text) -> bool {
     is_same && is_abc(&back)
 }
 
-fn are_compared(alloc: Global) -> Result<bool, Fail> {
-    let text = abc(alloc)?;
-    let is_compared = is_compared(alloc, &text)?;
-    Ok(is_compared && is_abc(&text))
+/// Whether a map finds the text, and not another one.
+fn is_found(places: &HashMap<Text, u64>, same: &Text, other: &Text) -> bool {
+    places.get(same) == Some(&7) && places.get(other) == None
 }
 
-fn are_found(alloc: Global) -> Result<bool, Fail> {
-    let text = abc(alloc)?;
-    let copy = text.copy(alloc)?;
-    let other = Text::from_slice(alloc, b"abcd")?;
-    is_found(alloc, text, &copy, &other)
+fn check_found<R: Abort>(rt: &R, alloc: Global) {
+    let text = abc(rt, alloc);
+    let same = text.copy(alloc).expect(rt, "memory");
+    let other = text_of(rt, alloc, b"abcd");
+    let mut places = HashMap::new(alloc);
+    let inserted: Result<_, _> = places.insert(text, 7);
+    inserted.expect(rt, "memory");
+    assert!(rt; is_found(&places, &same, &other));
 }
 
 #[test]
-fn texts_are_their_bytes(rt: HostRuntime) -> Result<(), Fail> {
+fn texts_are_their_bytes(rt: HostRuntime) {
     let alloc = rt.alloc();
-    let are_compared = are_compared(alloc)?;
-    let are_found = are_found(alloc)?;
-    let are_given_back = is_given_back(abc(alloc)?);
-    assert!(rt; Text::new(alloc).is_empty());
-    assert!(rt; are_compared && are_found && are_given_back);
-    Ok(())
+    check_compared(&rt, alloc);
+    check_found(&rt, alloc);
+    let are_given_back = is_given_back(abc(&rt, alloc));
+    let is_empty = Text::new(alloc).is_empty();
+    assert!(rt; are_given_back && is_empty);
 }
 
-fn three_and_one(alloc: Global) -> Result<Listed<u32>, WantOfMemory> {
+fn three_and_one<R: Abort>(rt: &R, alloc: Global) -> Listed<u32> {
     let mut list = Listed::new(alloc);
-    list.push(3)?;
-    list.push(1)?;
-    Ok(list)
+    list.push(3).expect(rt, "memory");
+    list.push(1).expect(rt, "memory");
+    list
 }
 
 fn are_values(list: Listed<u32>, copy: &Listed<u32>) -> bool {
@@ -133,21 +137,29 @@ fn are_values(list: Listed<u32>, copy: &Listed<u32>) -> bool {
 }
 
 #[test]
-fn lists_are_their_values(rt: HostRuntime) -> Result<(), Fail> {
+fn lists_are_their_values(rt: HostRuntime) {
     let alloc = rt.alloc();
-    let list = three_and_one(alloc)?;
-    let copy = list.copy(alloc)?;
+    let list = three_and_one(&rt, alloc);
+    let copy = list.copy(alloc).expect(&rt, "memory");
     let are_values = are_values(list, &copy);
-    assert!(rt; are_values && Listed::<u32>::new(alloc).is_empty());
-    Ok(())
+    let is_empty = Listed::<u32>::new(alloc).is_empty();
+    assert!(rt; are_values && is_empty);
+}
+
+fn v4(number: u32) -> Addr {
+    Addr {
+        v6: false,
+        number: number as u128,
+    }
+}
+
+fn check_range<R: Abort>(rt: &R, some: &Range, all: &Range, number: u32, held: bool) {
+    let is_held = some.holds(v4(number));
+    assert!(rt; is_held == held && all.holds(v4(number)), "at {number}");
 }
 
 #[test]
 fn ranges_hold_what_stands_between_their_ends(rt: HostRuntime) {
-    let v4 = |number: u32| Addr {
-        v6: false,
-        number: number as u128,
-    };
     let one = Addr {
         v6: true,
         number: 1,
@@ -156,50 +168,48 @@ fn ranges_hold_what_stands_between_their_ends(rt: HostRuntime) {
         first: v4(10),
         last: v4(20),
     };
-    let all = Range {
-        first: v4(0),
-        last: Addr {
-            v6: true,
-            number: u128::MAX,
-        },
+    let last = Addr {
+        v6: true,
+        number: u128::MAX,
     };
-    for (number, held) in [(9, false), (10, true), (20, true), (21, false)] {
-        assert!(rt; some.holds(v4(number)) == held, "at {number}");
-        assert!(rt; all.holds(v4(number)));
-    }
+    let all = Range { first: v4(0), last };
+    check_range(&rt, &some, &all, 9, false);
+    check_range(&rt, &some, &all, 10, true);
+    check_range(&rt, &some, &all, 20, true);
+    check_range(&rt, &some, &all, 21, false);
     assert!(rt; !some.holds(one) && all.holds(one));
 }
 
-fn joe(alloc: Global) -> Result<Pairs, Fail> {
-    let key = Text::from_slice(alloc, b"user")?;
-    let value = Text::from_slice(alloc, b"joe")?;
+fn joe<R: Abort>(rt: &R, alloc: Global) -> Pairs {
+    let key = text_of(rt, alloc, b"user");
+    let value = text_of(rt, alloc, b"joe");
     let mut pairs = Pairs::new(alloc);
-    pairs.push(Pair { key, value })?;
-    Ok(pairs)
+    pairs.push(Pair { key, value }).expect(rt, "memory");
+    pairs
 }
 
-fn answer(alloc: Global, class: u32, what: What) -> Result<Answer, Fail>
-    ensures { IfOk result (λ a. a.class ≡ class) }
+fn answer<R: Abort>(rt: &R, alloc: Global, class: u32, what: What) -> Answer
+    ensures { result.class ≡ class }
 {
-    let key = Text::from_slice(alloc, b"10.0.0.1 -")?;
-    Ok(Answer {
+    let key = text_of(rt, alloc, b"10.0.0.1 -");
+    Answer {
         class,
         key,
         what,
         question: Some(QuestionNo(5)),
         date: Moment(1000),
         taken: Moment(2000),
-    })
+    }
 }
 
 /// An answer of class 0 and behind it one of class 1.
-fn two_answers(alloc: Global, first: What, second: What) -> Result<Answers, Fail> {
-    let first = answer(alloc, 0, first)?;
-    let second = answer(alloc, 1, second)?;
+fn two_answers<R: Abort>(rt: &R, alloc: Global, first: What, second: What) -> Answers {
+    let first = answer(rt, alloc, 0, first);
+    let second = answer(rt, alloc, 1, second);
     let mut answers = Answers::new(alloc);
-    answers.push(first)?;
-    answers.push(second)?;
-    Ok(answers)
+    answers.push(first).expect(rt, "memory");
+    answers.push(second).expect(rt, "memory");
+    answers
 }
 
 fn are_joe(pairs: &Pairs) -> bool {
@@ -225,60 +235,55 @@ fn are_in_order(answers: &[Answer]) -> bool {
     answers.len() == 2 && is_first(&answers[0]) && answers[1].class == 1
 }
 
-/// Whether an answer that says this, and one behind it, are kept and copied.
-fn are_kept(alloc: Global, first: What) -> Result<bool, Fail> {
-    let answers = two_answers(alloc, first, What::Fault(Cause::Bh))?;
-    let copy = answers.copy(alloc)?;
-    let are_in_order = are_in_order(answers.as_slice());
-    Ok(are_in_order && copy.as_slice() == answers.as_slice() && copy.len() == 2)
+/// Ends the process unless an answer that says this, and one behind it, are kept and copied.
+fn check_answers<R: Abort>(rt: &R, alloc: Global, first: What) {
+    let answers = two_answers(rt, alloc, first, What::Fault(Cause::Bh));
+    let copy = answers.copy(alloc).expect(rt, "memory");
+    let are_same = copy.as_slice() == answers.as_slice() && copy.len() == 2;
+    assert!(rt; are_same && are_in_order(answers.as_slice()));
 }
 
 #[test]
-fn answers_are_kept_in_order_and_copied(rt: HostRuntime) -> Result<(), Fail> {
+fn answers_are_kept_in_order_and_copied(rt: HostRuntime) {
     let alloc = rt.alloc();
-    let yes = are_kept(alloc, What::Yes(joe(alloc)?))?;
-    let no = are_kept(alloc, What::No(joe(alloc)?))?;
-    let fault = are_kept(alloc, What::Fault(Cause::Died))?;
-    assert!(rt; yes && no && fault && Answers::new(alloc).is_empty());
-    Ok(())
+    check_answers(&rt, alloc, What::Yes(joe(&rt, alloc)));
+    check_answers(&rt, alloc, What::No(joe(&rt, alloc)));
+    check_answers(&rt, alloc, What::Fault(Cause::Died));
+    let is_empty = Answers::new(alloc).is_empty();
+    assert!(rt; is_empty);
 }
 
-fn is_reply_copied(alloc: Global) -> Result<bool, Fail> {
-    let pairs = joe(alloc)?;
+fn check_reply<R: Abort>(rt: &R, alloc: Global) {
+    let pairs = joe(rt, alloc);
     let reply = Reply {
         word: Word::Yes,
         pairs,
     };
-    let copy = reply.copy(alloc)?;
-    Ok(copy == reply)
+    let copy = reply.copy(alloc).expect(rt, "memory");
+    assert!(rt; copy == reply);
 }
 
-fn is_field_copied(alloc: Global) -> Result<bool, Fail> {
-    let name = Text::from_slice(alloc, b"Host")?;
-    let value = Text::from_slice(alloc, b"a.example")?;
+fn check_field<R: Abort>(rt: &R, alloc: Global) {
+    let name = text_of(rt, alloc, b"Host");
+    let value = text_of(rt, alloc, b"a.example");
     let field = Field { name, value };
-    let copy = field.copy(alloc)?;
-    Ok(copy == field)
+    let copy = field.copy(alloc).expect(rt, "memory");
+    assert!(rt; copy == field);
 }
 
 #[test]
-fn copies_are_equal(rt: HostRuntime) -> Result<(), Fail> {
+fn copies_are_equal(rt: HostRuntime) {
     let alloc = rt.alloc();
-    let address = Addr {
-        v6: false,
-        number: 7,
-    };
+    let address = v4(7);
     let range = Range {
         first: address,
         last: address,
     };
-    let is_reply_copied = is_reply_copied(alloc)?;
-    let is_field_copied = is_field_copied(alloc)?;
-    let address_copied = address.copy(alloc)?;
-    let range_copied = range.copy(alloc)?;
-    assert!(rt; is_reply_copied && is_field_copied);
+    check_reply(&rt, alloc);
+    check_field(&rt, alloc);
+    let address_copied = address.copy(alloc).expect(&rt, "memory");
+    let range_copied = range.copy(alloc).expect(&rt, "memory");
     assert!(rt; address_copied == address && range_copied == range);
-    Ok(())
 }
 
 fn tick_three_times<L: Ledger>(steps: &mut Steps<L>)

@@ -3,11 +3,11 @@ ghost use Rattle.std.specs.Prelude.{◌≡◌};
 ghost use Rattle.sq_base.specs.Replies.{is_key_byte, is_key, have_keys};
 ghost use Rattle.std.specs.List.{list_all};
 
-use crate::fixtures::long_text;
+use crate::fixtures::{long_text, text_of};
 use sq_base::{Pair, Reply, Text, WantOfMemory, Word};
 use sq_reply::{ReplyFault, print_question, print_reply, read_reply};
 use std::alloc::Global;
-use std::test::Fail;
+use std::process::Abort;
 
 /// Lines without a channel that are no replies.
 static NO_REPLIES: [&[u8]; 49] = [
@@ -226,78 +226,108 @@ fn put_pair(shown: &mut Text, pair: &Pair) -> Result<(), WantOfMemory> {
     shown.push(b'|')
 }
 
+fn put_pairs(shown: &mut Text, pairs: &[Pair]) -> Result<(), WantOfMemory> {
+    for pair in pairs {
+        put_pair(shown, pair)?;
+    }
+    Ok(())
+}
+
 /// A reply as the table writes it down.
-fn shown(alloc: Global, reply: &Reply) -> Result<Text, WantOfMemory> {
+fn shown<R: Abort>(rt: &R, alloc: Global, reply: &Reply) -> Text {
     let word = match reply.word {
         Word::Yes => "Yes|",
         Word::No => "No|",
         Word::Broken => "Broken|",
     };
-    let mut shown = Text::from_slice(alloc, word.as_bytes())?;
-    for pair in reply.pairs.as_slice() {
-        put_pair(&mut shown, pair)?;
-    }
-    Ok(shown)
+    let mut shown = text_of(rt, alloc, word.as_bytes());
+    put_pairs(&mut shown, reply.pairs.as_slice()).expect(rt, "memory");
+    shown
+}
+
+fn check_bad<R: Abort>(rt: &R, alloc: Global, line: &[u8], numbered: bool) {
+    let fault = read_reply(alloc, line, numbered).err();
+    assert!(rt; fault == Some(ReplyFault::Bad), "at {line:?}");
 }
 
 #[test]
 fn lines_outside_the_grammar_are_no_replies(rt: HostRuntime) {
     for &line in &NO_REPLIES {
-        let read = read_reply(rt.alloc(), line, false);
-        assert!(rt; read == Err(ReplyFault::Bad), "at {line:?}");
+        check_bad(&rt, rt.alloc(), line, false);
     }
     for &line in &NO_NUMBERED {
-        let read = read_reply(rt.alloc(), line, true);
-        assert!(rt; read == Err(ReplyFault::Bad), "at {line:?}");
+        check_bad(&rt, rt.alloc(), line, true);
     }
 }
 
-#[test]
-fn replies_of_helpers_are_read_and_printed(rt: HostRuntime) -> Result<(), Fail> {
-    for &(line, wanted, text) in &REPLIES {
-        let numbered = line.first().is_some_and(|byte| byte.is_ascii_digit());
-        let (channel, reply) = read_reply(rt.alloc(), line, numbered)?;
-        let shown = shown(rt.alloc(), &reply)?;
-        assert!(rt; shown.as_bytes() == wanted, "at {line:?}");
-        assert!(rt; have_keys(reply.pairs.as_slice()));
-        let printed = print_reply(rt.alloc(), channel, &reply)?;
-        assert!(rt; printed.as_bytes() == text, "at {line:?}");
-    }
-    Ok(())
+/// Ends the process unless the reply is this one, as the table writes it down.
+fn check_shown<R: Abort>(rt: &R, alloc: Global, reply: &Reply, wanted: &[u8]) {
+    let shown = shown(rt, alloc, reply);
+    assert!(rt; shown.as_bytes() == wanted, "at {wanted:?}");
 }
 
-#[test]
-fn reply_lines_have_at_most_65536_bytes(rt: HostRuntime) -> Result<(), Fail> {
-    for &(front, count, back, is_reply) in &LONG_LINES {
-        let line = long_text(rt.alloc(), front, count, back)?;
-        let read = read_reply(rt.alloc(), line.as_bytes(), false);
-        assert!(rt; read.is_ok() == is_reply, "at {front:?}, {count}, {back:?}");
-    }
-    Ok(())
-}
-
-/// Whether a helper is asked this by this line.
-fn is_asked(
+/// Ends the process unless the reply can be printed, and is printed so.
+fn check_printed<R: Abort>(
+    rt: &R,
     alloc: Global,
     channel: Option<u32>,
-    key: &[u8],
-    line: &[u8],
-) -> Result<bool, WantOfMemory> {
-    let question = print_question(alloc, channel, key)?;
-    Ok(question.as_bytes() == line)
+    reply: &Reply,
+    text: &[u8],
+) {
+    assert!(rt; have_keys(reply.pairs.as_slice()));
+    let printed = print_reply(alloc, channel, reply).expect(rt, "memory");
+    assert!(rt; printed.as_bytes() == text, "at {text:?}");
+}
+
+fn check_reply<R: Abort>(rt: &R, alloc: Global, line: &[u8], wanted: &[u8], text: &[u8]) {
+    let numbered = line.first().is_some_and(|byte| byte.is_ascii_digit());
+    let (channel, reply) = read_reply(alloc, line, numbered).expect(rt, "a reply");
+    check_shown(rt, alloc, &reply, wanted);
+    check_printed(rt, alloc, channel, &reply, text);
 }
 
 #[test]
-fn questions_are_a_channel_and_a_key(rt: HostRuntime) -> Result<(), Fail> {
+fn replies_of_helpers_are_read_and_printed(rt: HostRuntime) {
+    for &(line, wanted, text) in &REPLIES {
+        check_reply(&rt, rt.alloc(), line, wanted, text);
+    }
+}
+
+fn check_long<R: Abort>(
+    rt: &R,
+    alloc: Global,
+    front: &[u8],
+    count: usize,
+    back: &[u8],
+    is_reply: bool,
+) {
+    let line = long_text(rt, alloc, front, count, back);
+    let is_read = read_reply(alloc, line.as_bytes(), false).is_ok();
+    assert!(rt; is_read == is_reply, "at {front:?}, {count}, {back:?}");
+}
+
+#[test]
+fn reply_lines_have_at_most_65536_bytes(rt: HostRuntime) {
+    for &(front, count, back, is_reply) in &LONG_LINES {
+        check_long(&rt, rt.alloc(), front, count, back, is_reply);
+    }
+}
+
+/// Ends the process unless a helper is asked this by this line.
+fn check_question<R: Abort>(rt: &R, alloc: Global, channel: Option<u32>, key: &[u8], line: &[u8]) {
+    let question = print_question(alloc, channel, key).expect(rt, "memory");
+    assert!(rt; question.as_bytes() == line, "at {line:?}");
+}
+
+#[test]
+fn questions_are_a_channel_and_a_key(rt: HostRuntime) {
     let alloc = rt.alloc();
-    let plain = is_asked(alloc, None, b"10.0.0.1 -", b"10.0.0.1 -\n")?;
-    let most = Some(4294967295);
-    let numbered = is_asked(
+    check_question(&rt, alloc, None, b"10.0.0.1 -", b"10.0.0.1 -\n");
+    check_question(
+        &rt,
         alloc,
-        most,
+        Some(4294967295),
         b"10.0.0.1 a%20b",
         b"4294967295 10.0.0.1 a%20b\n",
-    )?;
-    assert!(rt; plain && numbered);
-    Ok(())
+    );
 }

@@ -1,8 +1,9 @@
 //! Targets, heads and their ends.
+use crate::fixtures::text_of;
 use sq_base::{Copying, Fields, Request, Text, WantOfMemory, number_of};
 use sq_request::{BadRequest, head_end, make_request, read_request};
 use std::alloc::Global;
-use std::test::Fail;
+use std::process::Abort;
 
 /// A line for each target: the method, the target, and its scheme, host, port and path, of which scheme and
 /// path may be empty. Forms of RFC 9112 section 3.2 over RFC 3986 section 3; `cases/targets.txt` has those that
@@ -157,23 +158,28 @@ fn has_parts(request: &Request, parts: &str) -> bool {
         && request.path.as_bytes() == path.as_bytes()
 }
 
-/// Whether the request has these parts, and a copy of it has them too, and method and target as they are.
-fn is_copied(
+/// Ends the process unless the request has these parts, and a copy of it has them too, and method and target as they
+/// are.
+fn check_copy<R: Abort>(
+    rt: &R,
     alloc: Global,
     request: &Request,
     method: &str,
     target: &str,
     parts: &str,
-) -> Result<bool, Fail> {
-    let copy = request.copy(alloc)?;
+) {
+    let copy = request.copy(alloc).expect(rt, "memory");
     let are_same = has_parts(request, parts) && has_parts(&copy, parts);
-    Ok(are_same && is_asked(&copy, method, target) && copy.literal == request.literal)
+    let is_asked = is_asked(&copy, method, target) && copy.literal == request.literal;
+    assert!(rt; are_same && is_asked, "at {method} {target}");
 }
 
-/// Whether this method and target are read as a request with these parts.
-fn is_read(alloc: Global, method: &str, target: &str, parts: &str) -> Result<bool, Fail> {
-    let request = ask(alloc, method.as_bytes(), target.as_bytes())?;
-    is_copied(alloc, &request, method, target, parts)
+/// Ends the process unless this method and target are read as a request with these parts.
+fn check_target<R: Abort>(rt: &R, alloc: Global, line: &str) {
+    let (method, rest) = line.split_once(' ').expect(rt, "a method");
+    let (target, parts) = rest.split_once(' ').expect(rt, "a target");
+    let request = ask(alloc, method.as_bytes(), target.as_bytes()).expect(rt, line);
+    check_copy(rt, alloc, &request, method, target, parts);
 }
 
 /// What the bytes come to as a head.
@@ -190,61 +196,73 @@ fn comes_to(alloc: Global, bytes: &[u8]) -> Comes {
     }
 }
 
-/// A head with so many fields.
-fn head_with(alloc: Global, count: usize) -> Result<Text, WantOfMemory> {
-    let mut head = Text::from_slice(alloc, b"GET http://a/ HTTP/1.1\r\n")?;
+fn put_head(head: &mut Text, count: usize) -> Result<(), WantOfMemory> {
+    head.append(b"GET http://a/ HTTP/1.1\r\n")?;
     for _ in 0..count {
         head.append(b"A: b\r\n")?;
     }
-    head.append(b"\r\n")?;
-    Ok(head)
+    head.append(b"\r\n")
+}
+
+/// A head with so many fields.
+fn head_with<R: Abort>(rt: &R, alloc: Global, count: usize) -> Text {
+    let mut head = Text::new(alloc);
+    put_head(&mut head, count).expect(rt, "memory");
+    head
 }
 
 #[test]
-fn targets_have_these_parts_and_copies_too(rt: HostRuntime) -> Result<(), Fail> {
+fn targets_have_these_parts_and_copies_too(rt: HostRuntime) {
     for line in TARGETS.lines() {
-        let (method, rest) = line.split_once(' ').ok_or("no method")?;
-        let (target, parts) = rest.split_once(' ').ok_or("no target")?;
-        let is_read = is_read(rt.alloc(), method, target, parts)?;
-        assert!(rt; is_read, "at {line}");
+        check_target(&rt, rt.alloc(), line);
     }
-    Ok(())
+}
+
+fn check_byte<R: Abort>(rt: &R, alloc: Global, byte: u8) {
+    let mut target = text_of(rt, alloc, b"http://a/");
+    target.push(byte).expect(rt, "memory");
+    let read = ask(alloc, b"GET", target.as_bytes()).is_ok();
+    let visible = 33 <= byte && byte <= 126 && byte != 35;
+    assert!(rt; read == visible, "at {byte}");
 }
 
 #[test]
-fn bytes_outside_visible_ascii_are_in_no_target(rt: HostRuntime) -> Result<(), Fail> {
-    for byte in 0..256_u16 {
-        let mut target = Text::from_slice(rt.alloc(), b"http://a/")?;
-        target.push(byte as u8)?;
-        let read = ask(rt.alloc(), b"GET", target.as_bytes()).is_ok();
-        let visible = 33 <= byte && byte <= 126 && byte != 35;
-        assert!(rt; read == visible, "at {byte}");
+fn bytes_outside_visible_ascii_are_in_no_target(rt: HostRuntime) {
+    for byte in 0..=255_u8 {
+        check_byte(&rt, rt.alloc(), byte);
     }
-    Ok(())
+}
+
+fn check_head<R: Abort>(rt: &R, alloc: Global, head: &[u8], comes: Comes) {
+    assert!(rt; comes_to(alloc, head) == comes, "at {head:?}");
 }
 
 #[test]
 fn heads_come_to_this(rt: HostRuntime) {
     for &(head, comes) in &HEADS {
-        assert!(rt; comes_to(rt.alloc(), head) == comes, "at {head:?}");
+        check_head(&rt, rt.alloc(), head, comes);
     }
 }
 
+fn check_count<R: Abort>(rt: &R, alloc: Global, count: usize, comes: Comes) {
+    let head = head_with(rt, alloc, count);
+    assert!(rt; comes_to(alloc, head.as_bytes()) == comes, "at {count}");
+}
+
 #[test]
-fn heads_have_128_fields_at_the_most(rt: HostRuntime) -> Result<(), Fail> {
+fn heads_have_128_fields_at_the_most(rt: HostRuntime) {
     for &(count, comes) in &COUNTS {
-        let head = head_with(rt.alloc(), count)?;
-        assert!(rt;
-            comes_to(rt.alloc(), head.as_bytes()) == comes,
-            "at {count}"
-        );
+        check_count(&rt, rt.alloc(), count, comes);
     }
-    Ok(())
+}
+
+fn check_end<R: Abort>(rt: &R, bytes: &[u8], end: Option<usize>) {
+    assert!(rt; head_end(bytes) == end, "at {bytes:?}");
 }
 
 #[test]
 fn heads_end_here(rt: HostRuntime) {
     for &(bytes, end) in &ENDS {
-        assert!(rt; head_end(bytes) == end, "at {bytes:?}");
+        check_end(&rt, bytes, end);
     }
 }
