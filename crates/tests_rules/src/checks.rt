@@ -1,4 +1,5 @@
 //! A check from its request to its outcome.
+use crate::fixtures::text;
 use sq_base::{
     Addr, CheckNo, ConnNo, Copying, EpochNo, Fields, Moment, Pairs, QuestionNo, Text, What,
 };
@@ -11,18 +12,19 @@ use sq_model_rows::{StepEffect, Stepped};
 use sq_request::make_request;
 use sq_rules::{Sight, Value};
 use std::alloc::Global;
+use std::process::Abort;
 use std::sync::Arc;
-use std::test::Fail;
 
 /// A helper is asked whether it knows the client's address, and a client that it knows is allowed. The key has `-`
 /// for the arguments, of which there are none.
 static TEXT: &str = "external_acl_type v %SRC /bin/h\nacl e external v\nhttp_access allow e\n";
 
 /// What the check of a request of 10.1.2.3 sees.
-fn sight(alloc: Global) -> Result<Sight, Fail> {
-    let request = make_request(alloc, b"GET", b"http://a.example/", 0, Fields::new(alloc))?;
-    Ok(Sight {
-        request,
+fn sight(rt: &impl Abort, alloc: Global) -> Sight {
+    let fields = Fields::new(alloc);
+    let request = make_request(alloc, b"GET", b"http://a.example/", 0, fields);
+    Sight {
+        request: request.expect(rt, "a request"),
         addr: Addr {
             v6: false,
             number: 0x0a010203,
@@ -30,57 +32,55 @@ fn sight(alloc: Global) -> Result<Sight, Fail> {
         port: 4000,
         minute: 0,
         conns: 1,
-    })
+    }
 }
 
 /// The check of this request that begins on connection 7 in epoch 1.
-fn begun(alloc: Global) -> Result<OpenCheck, Fail> {
-    let sight = sight(alloc)?;
-    let mut setup = read_config(alloc, TEXT.as_bytes())?;
-    let facts = read_facts(alloc, &mut setup, &sight)?;
-    let slots = Arc::new(alloc, Slots::new(alloc, setup.config())?)?;
-    Ok(OpenCheck::new(alloc, ConnNo(7), EpochNo(1), &slots, sight, facts)?)
+fn begun(rt: &impl Abort, alloc: Global) -> OpenCheck {
+    let sight = sight(rt, alloc);
+    let mut setup = read_config(alloc, TEXT.as_bytes()).expect(rt, "a configuration");
+    let facts = read_facts(alloc, &mut setup, &sight).expect(rt, "memory");
+    let slots = Slots::new(alloc, setup.config()).expect(rt, "memory");
+    let slots = Arc::new(alloc, slots).expect(rt, "memory");
+    OpenCheck::new(alloc, ConnNo(7), EpochNo(1), &slots, sight, facts).expect(rt, "memory")
 }
 
 /// Steps a check; where it asks, it is told to wait for this question. The key that it asks for, or none where
 /// it is done.
 fn step(
+    rt: &impl Abort,
     alloc: Global,
     checks: &mut OpenChecks,
     number: CheckNo,
     question: QuestionNo,
-) -> Result<Option<Text>, Fail> {
-    checks.settle(alloc, number)?;
+) -> Option<Text> {
+    checks.settle(alloc, number).expect(rt, "memory");
     let Some(check) = checks.get(number) else {
-        return Err(Fail::new("not open"));
+        panic!(rt; "not open");
     };
-    if !check.is_settled() {
-        return Err(Fail::new("not settled"));
-    }
-    let value = checks.come_to(alloc, number)?;
+    assert!(rt; check.is_settled(), "not settled");
+    let value = checks.come_to(alloc, number).expect(rt, "memory");
     let Some(check) = checks.get(number) else {
-        return Err(Fail::new("no longer open"));
+        panic!(rt; "no longer open");
     };
-    if !check.is_settled() {
-        return Err(Fail::new("no longer settled"));
-    }
+    assert!(rt; check.is_settled(), "no longer settled");
     match value {
         Value::Verdict(outcome) => {
             checks.finish(number, outcome);
-            Ok(None)
+            None
         }
         Value::Need { acl, key } => {
             let Some(class) = class_of(check.config(), acl) else {
-                return Err(Fail::new("no class"));
+                panic!(rt; "no class");
             };
-            let asked = key.copy(alloc)?;
+            let asked = key.copy(alloc).expect(rt, "memory");
             let said = StepEffect {
                 stepped: Stepped::Waits(question),
                 took: None,
                 put: true,
             };
             checks.note(number, said, acl, class, key);
-            Ok(Some(asked))
+            Some(asked)
         }
     }
 }
@@ -108,36 +108,29 @@ fn needs(checks: &OpenChecks, question: QuestionNo, key: &Text) -> bool {
 }
 
 /// Whether what is in the record comes to a verdict that allows.
-fn comes_to_allowed(alloc: Global, record: &Record) -> Result<bool, Fail> {
+fn comes_to_allowed(rt: &impl Abort, alloc: Global, record: &Record) -> bool {
     let config = record.config();
-    match evaluate(
-        alloc,
-        config,
-        record.facts(),
-        record.sight(),
-        record.answers(),
-    )? {
-        Value::Verdict(outcome) => Ok(outcome.allow),
-        Value::Need { acl: _, key: _ } => Ok(false),
+    let (facts, sight) = (record.facts(), record.sight());
+    match evaluate(alloc, config, facts, sight, record.answers()).expect(rt, "memory") {
+        Value::Verdict(outcome) => outcome.allow,
+        Value::Need { acl: _, key: _ } => false,
     }
 }
 
 /// The record of check 3, which is done.
-fn taken(checks: &mut OpenChecks) -> Result<Record, Fail> {
+fn taken(rt: &impl Abort, checks: &mut OpenChecks) -> Record {
     let Some(check) = checks.remove(CheckNo(3)) else {
-        return Err(Fail::new("not open"));
+        panic!(rt; "not open");
     };
-    if check.outcome().is_none() {
-        return Err(Fail::new("not done"));
-    }
-    Ok(check.into_record(CheckNo(3)))
+    assert!(rt; !check.outcome().is_none(), "not done");
+    check.into_record(CheckNo(3))
 }
 
 /// Whether check 3 asks question 4 at a step, for its client.
-fn asks(alloc: Global, checks: &mut OpenChecks) -> Result<bool, Fail> {
-    let key = Text::from_slice(alloc, b"10.1.2.3 -")?;
-    let asked = step(alloc, checks, CheckNo(3), QuestionNo(4))?;
-    Ok(needs(checks, QuestionNo(4), &key) && asked == Some(key))
+fn asks(rt: &impl Abort, alloc: Global, checks: &mut OpenChecks) -> bool {
+    let key = text(rt, alloc, b"10.1.2.3 -");
+    let asked = step(rt, alloc, checks, CheckNo(3), QuestionNo(4));
+    needs(checks, QuestionNo(4), &key) && asked == Some(key)
 }
 
 /// Serves check 3 with an OK to this question, and says which question it waits for then.
@@ -160,26 +153,24 @@ fn is_of_check(record: &Record) -> bool {
 }
 
 /// Whether check 3 is done at its next step and taken, and its record is its own.
-fn is_done(alloc: Global, checks: &mut OpenChecks) -> Result<bool, Fail> {
-    let asks_none = step(alloc, checks, CheckNo(3), QuestionNo(6))?.is_none();
-    let record = taken(checks)?;
-    let is_allowed = comes_to_allowed(alloc, &record)?;
-    Ok(asks_none && is_allowed && is_of_check(&record))
+fn is_done(rt: &impl Abort, alloc: Global, checks: &mut OpenChecks) -> bool {
+    let asks_none = step(rt, alloc, checks, CheckNo(3), QuestionNo(6)).is_none();
+    let record = taken(rt, checks);
+    asks_none && comes_to_allowed(rt, alloc, &record) && is_of_check(&record)
 }
 
 #[test]
-fn a_check_waits_for_its_question_and_is_then_done(rt: HostRuntime) -> Result<(), Fail> {
+fn a_check_waits_for_its_question_and_is_then_done(rt: HostRuntime) {
     let alloc = rt.alloc();
-    let check = begun(alloc)?;
+    let check = begun(&rt, alloc);
     let mut checks = OpenChecks::new(alloc);
     let is_begun = checks.begin(CheckNo(3), check).is_ok();
-    let asks = asks(alloc, &mut checks)?;
+    let asks = asks(&rt, alloc, &mut checks);
     assert!(rt; is_begun && asks && waits(&checks) == 4);
     let left = served(alloc, &mut checks, QuestionNo(5), Moment(100));
     assert!(rt; left == 4, "another question");
     let left = served(alloc, &mut checks, QuestionNo(4), Moment(200));
     assert!(rt; left == 0, "its question");
-    let is_done = is_done(alloc, &mut checks)?;
+    let is_done = is_done(&rt, alloc, &mut checks);
     assert!(rt; is_done && checks.len() == 0);
-    Ok(())
 }

@@ -1,7 +1,6 @@
 //! The options of classes of helpers, which no command shows.
 use sq_conf::read_config;
 use sq_rules::Class;
-use std::test::Fail;
 
 /// Options, then the class's ttl, negative ttl, grace, cache, greatest number of children, those at
 /// the beginning, concurrency, size of its queue and number of tokens.
@@ -37,14 +36,16 @@ fn numbers(class: &Class) -> [u32; 9] {
 }
 
 #[test]
-fn classes_have_these_options(rt: HostRuntime) -> Result<(), Fail> {
+fn classes_have_these_options(rt: HostRuntime) {
+    let alloc = rt.alloc();
     for &(options, wanted) in &CLASSES {
-        let text = format!(in rt.alloc(); "http_port 80\nexternal_acl_type v {options}\n")?;
-        let setup = read_config(rt.alloc(), text.as_bytes())?;
+        let text = format!(in alloc; "http_port 80\nexternal_acl_type v {options}\n").expect(
+            &rt, "memory",
+        );
+        let setup = read_config(alloc, text.as_bytes()).expect(&rt, "a configuration");
         let config = setup.config();
         let found = config.classes().first().map(|class| numbers(class));
         assert!(rt; found == Some(wanted), "at {options}");
         assert!(rt; config.port() == 80 && config.source().as_bytes() == text.as_bytes());
     }
-    Ok(())
 }

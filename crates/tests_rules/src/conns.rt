@@ -1,7 +1,7 @@
 //! Connections that open and close.
 use sq_base::{Addr, CheckNo, ConnNo};
 use sq_checks::Conns;
-use std::test::Fail;
+use std::process::Abort;
 
 /// A client: 10.0.0.1 with port 1, or 10.0.0.2 with port 2.
 #[derive(Clone, Copy)]
@@ -46,19 +46,20 @@ fn port_of(client: Client) -> u16 {
 }
 
 /// Opens or closes a connection.
-fn run_step(conns: &mut Conns, client: Option<Client>, conn: ConnNo) -> Result<(), Fail> {
+fn run_step(rt: &impl Abort, conns: &mut Conns, client: Option<Client>, conn: ConnNo) {
     match client {
         Some(client) => {
             if conns.peer(conn).is_some() {
-                return Err(Fail::new("open already"));
+                panic!(rt; "open already");
             }
-            conns.open(conn, addr_of(client), port_of(client))?;
+            conns
+                .open(conn, addr_of(client), port_of(client))
+                .expect(rt, "memory");
         }
         None => {
             let _peer = conns.close(conn);
         }
     }
-    Ok(())
 }
 
 /// The port of connection 7, 0 where it is not open.
@@ -69,20 +70,25 @@ fn port(conns: &Conns) -> u16 {
     }
 }
 
+/// Whether so many connections are open, of which so many are of 10.0.0.1 and of 10.0.0.2, and none has a check.
+fn are_counted(conns: &Conns, all: usize, of_one: u32, of_two: u32) -> bool {
+    conns.len() == all
+        && !conns.is_full()
+        && conns.of(addr_of(Client::One)) == of_one
+        && conns.of(addr_of(Client::Two)) == of_two
+        && conns.check(ConnNo(7)).is_none()
+}
+
 #[test]
-fn connections_are_counted_by_address(rt: HostRuntime) -> Result<(), Fail> {
+fn connections_are_counted_by_address(rt: HostRuntime) {
     let mut conns = Conns::new(rt.alloc());
     for (client, conn, all, of_one, of_two, seven) in &STEPS {
-        run_step(&mut conns, *client, ConnNo(u64::from(*conn)))?;
-        assert!(rt; conns.len() == *all && !conns.is_full());
-        assert!(rt; conns.of(addr_of(Client::One)) == *of_one);
-        assert!(rt; conns.of(addr_of(Client::Two)) == *of_two);
-        assert!(rt; port(&conns) == *seven && conns.check(ConnNo(7)).is_none());
+        run_step(&rt, &mut conns, *client, ConnNo(u64::from(*conn)));
+        let are_counted = are_counted(&conns, *all, *of_one, *of_two);
+        assert!(rt; are_counted && port(&conns) == *seven);
     }
     if conns.peer(ConnNo(7)).is_some() {
         conns.set_check(ConnNo(7), Some(CheckNo(3)));
     }
-    assert!(rt; conns.check(ConnNo(7)) == Some(CheckNo(3)));
-    assert!(rt; port(&conns) == 2);
-    Ok(())
+    assert!(rt; conns.check(ConnNo(7)) == Some(CheckNo(3)) && port(&conns) == 2);
 }

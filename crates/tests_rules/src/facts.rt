@@ -2,18 +2,20 @@
 ghost use Rattle.std.specs.Prelude.{◌≡◌, ◌<◌};
 ghost use Rattle.sq_rules.specs.Facts.{facts_of};
 
-use sq_base::{Addr, Fields, Listed, Steps, Text, WantOfMemory};
+use crate::fixtures::text;
+use crate::parts::{built, parts_of};
+use sq_base::{Addr, Fields, Steps};
 use sq_facts::read_facts;
 use sq_request::make_request;
 use sq_rules::{
-    AclPart, AclParts, BodyPart, Classes, Config, Facts, Find, Finds, Leaf, Parts, PoolParts,
-    RuleParts, Sight, TermPart, TermParts, predefined_acls,
+    AclPart, BodyPart, Classes, Facts, Find, Finds, Leaf, Sight, TermPart, TermParts,
+    predefined_acls,
 };
 use sq_urlmatch::Setup;
 use std::alloc::Global;
 use std::marker::Brand;
+use std::process::Abort;
 use std::sync::ledger::{Blank, Ledger};
-use std::test::Fail;
 
 /// A method, a target, the last byte of the client 127.0.0.N, and the facts of `all`, `localhost`,
 /// `CONNECT`, `manager`, `to_localhost`, `to_linklocal`, a pattern of an escaped letter, and a group.
@@ -57,80 +59,53 @@ static FACTS: [(&[u8], &[u8], u128, [bool; 8]); 6] = [
 ];
 
 /// A list of one pattern.
-fn secrets(alloc: Global) -> Result<AclPart, WantOfMemory> {
-    let name = Text::from_slice(alloc, b"secrets")?;
-    let pattern = Text::from_slice(alloc, b"secret$")?;
-    let mut finds = Finds::new(alloc);
-    finds.push(Find {
-        pattern,
+fn secrets(rt: &impl Abort, alloc: Global) -> AclPart {
+    let find = Find {
+        pattern: text(rt, alloc, b"secret$"),
         fold: false,
-    })?;
-    Ok(AclPart {
-        name,
+    };
+    let mut finds = Finds::new(alloc);
+    finds.push(find).expect(rt, "memory");
+    AclPart {
+        name: text(rt, alloc, b"secrets"),
         body: BodyPart::Leaf(Leaf::UrlRegex(finds)),
-    })
+    }
 }
 
 /// A group that always holds.
-fn group(alloc: Global) -> Result<AclPart, WantOfMemory> {
-    let name = Text::from_slice(alloc, b"group")?;
-    let acl = Text::from_slice(alloc, b"all")?;
-    let mut terms = TermParts::new(alloc);
-    terms.push(TermPart {
-        acl,
+fn group(rt: &impl Abort, alloc: Global) -> AclPart {
+    let term = TermPart {
+        acl: text(rt, alloc, b"all"),
         negated: false,
-    })?;
-    Ok(AclPart {
-        name,
-        body: BodyPart::AnyOf(terms),
-    })
-}
-
-/// The acls that are there from the start, and these two.
-fn acls(alloc: Global) -> Result<AclParts, WantOfMemory> {
-    let secrets = secrets(alloc)?;
-    let group = group(alloc)?;
-    let mut acls = predefined_acls(alloc)?;
-    acls.push(secrets)?;
-    acls.push(group)?;
-    Ok(acls)
-}
-
-/// The configuration of these acls alone, where they are not too many.
-#[tactic(auto, using(sq_rules::proofs::LookupLaws::stated_most))]
-fn setup(alloc: Global, acls: AclParts) -> Result<Setup, Fail> {
-    if acls.len() > 4_096 {
-        return Err(Fail::new("too many acls"));
-    }
-    let parts = Parts {
-        source: Text::new(alloc),
-        dst_lookup: false,
-        classes: Classes::new(alloc),
-        acls,
-        rules: RuleParts::new(alloc),
-        pools: PoolParts::new(alloc),
-        initial: 50,
-        port: 3128,
-        rewriter: None,
-        headers: Listed::new(alloc),
-        notices: Listed::new(alloc),
     };
-    let config = Config::build(alloc, parts)?;
-    let setup = Setup::make(alloc, config)?;
-    Ok(setup)
+    let mut terms = TermParts::new(alloc);
+    terms.push(term).expect(rt, "memory");
+    AclPart {
+        name: text(rt, alloc, b"group"),
+        body: BodyPart::AnyOf(terms),
+    }
+}
+
+/// The configuration of the acls that are there from the start, and of these two.
+fn setup(rt: &impl Abort, alloc: Global) -> Setup {
+    let mut acls = predefined_acls(alloc).expect(rt, "memory");
+    acls.push(secrets(rt, alloc)).expect(rt, "memory");
+    acls.push(group(rt, alloc)).expect(rt, "memory");
+    let config = built(rt, alloc, parts_of(alloc, None, Classes::new(alloc), acls));
+    Setup::make(alloc, config).expect(rt, "patterns")
 }
 
 /// What a check sees of this method and target, of the client 127.0.0.N.
-fn sight(alloc: Global, method: &[u8], target: &[u8], n: u128) -> Result<Sight, Fail> {
-    let request = make_request(alloc, method, target, 1, Fields::new(alloc))?;
+fn sight(rt: &impl Abort, alloc: Global, method: &[u8], target: &[u8], n: u128) -> Sight {
+    let fields = Fields::new(alloc);
     let number = 0x7f000000 + n % 256;
-    Ok(Sight {
-        request,
+    Sight {
+        request: make_request(alloc, method, target, 1, fields).expect(rt, "a request"),
         addr: Addr { v6: false, number },
         port: 4000,
         minute: 0,
         conns: 1,
-    })
+    }
 }
 
 /// Whether these are the facts, each read in one step.
@@ -159,22 +134,23 @@ fn are_facts<L: Ledger>(
 
 /// Whether these are the facts of a sight.
 fn finds_facts(
+    rt: &impl Abort,
     alloc: Global,
     setup: &mut Setup,
     sight: &Sight,
     wanted: &[bool],
-) -> Result<bool, Fail> {
-    let facts = read_facts(alloc, setup, sight)?;
-    Ok(are_facts::<Brand>(setup, sight, &facts, wanted, Blank::new(1)))
+) -> bool {
+    let facts = read_facts(alloc, setup, sight).expect(rt, "memory");
+    are_facts::<Brand>(setup, sight, &facts, wanted, Blank::new(1))
 }
 
 #[test]
-fn leaf_acls_hold_where_the_reference_says(rt: HostRuntime) -> Result<(), Fail> {
-    let mut setup = setup(rt.alloc(), acls(rt.alloc())?)?;
+fn leaf_acls_hold_where_the_reference_says(rt: HostRuntime) {
+    let alloc = rt.alloc();
+    let mut setup = setup(&rt, alloc);
     for (method, target, n, wanted) in &FACTS {
-        let sight = sight(rt.alloc(), method, target, *n)?;
-        let found = finds_facts(rt.alloc(), &mut setup, &sight, wanted)?;
+        let sight = sight(&rt, alloc, method, target, *n);
+        let found = finds_facts(&rt, alloc, &mut setup, &sight, wanted);
         assert!(rt; found, "at {method:?}, {target:?}");
     }
-    Ok(())
 }

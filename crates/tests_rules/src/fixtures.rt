@@ -1,11 +1,13 @@
-//! What several tests share: what a check sees, and the configuration of a text.
+//! What several tests share: texts, what a check sees, and the configuration of a text.
+ghost use Rattle.std.specs.Prelude.{◌≡◌};
+
 use sq_base::{Addr, Fields, Text};
 use sq_conf::read_config;
 use sq_request::make_request;
 use sq_rules::Sight;
 use sq_urlmatch::Setup;
 use std::alloc::Global;
-use std::test::Fail;
+use std::process::Abort;
 
 /// A client, of each kind of address.
 #[derive(Clone, Copy)]
@@ -30,35 +32,49 @@ pub fn addr_of(client: Client) -> Addr {
     }
 }
 
+/// A text with these bytes.
+pub fn text(rt: &impl Abort, alloc: Global, bytes: &[u8]) -> Text
+    ensures { result ≡ bytes.now }
+{
+    Text::from_slice(alloc, bytes).expect(rt, "memory")
+}
+
 /// What a check sees of a request, with port 4000 of this client.
 pub fn sight(
+    rt: &impl Abort,
     alloc: Global,
     client: Client,
     method: &[u8],
     target: &[u8],
     fields: Fields,
-) -> Result<Sight, Fail> {
-    let request = make_request(alloc, method, target, 1, fields)?;
-    Ok(Sight {
-        request,
+) -> Sight {
+    Sight {
+        request: make_request(alloc, method, target, 1, fields).expect(rt, "a request"),
         addr: addr_of(client),
         port: 4000,
         minute: 0,
         conns: 1,
-    })
+    }
 }
 
-/// What a check sees of a request of this client for a page, with these fields.
-pub fn page(alloc: Global, client: Client, fields: Fields) -> Result<Sight, Fail> {
-    sight(alloc, client, b"GET", b"http://a.example/", fields)
+/// What a check sees of a request of this client for a page, which has no fields.
+pub fn page(rt: &impl Abort, alloc: Global, client: Client) -> Sight {
+    sight(
+        rt,
+        alloc,
+        client,
+        b"GET",
+        b"http://a.example/",
+        Fields::new(alloc),
+    )
 }
 
 /// The configuration of a text and of lines behind it, which have `; ` between.
-pub fn setup_of(alloc: Global, front: &str, lines: &str) -> Result<Setup, Fail> {
-    let mut text = Text::from_slice(alloc, front.as_bytes())?;
+pub fn setup_of(rt: &impl Abort, alloc: Global, front: &str, lines: &str) -> Setup {
+    let mut text = text(rt, alloc, front.as_bytes());
     for line in lines.split("; ") {
-        text.append(line.as_bytes())?;
-        text.push(b'\n')?;
+        text.append(line.as_bytes()).expect(rt, "memory");
+        text.push(b'\n').expect(rt, "memory");
     }
-    Ok(read_config(alloc, text.as_bytes())?)
+    read_config(alloc, text.as_bytes()).expect(rt, "a configuration")
 }

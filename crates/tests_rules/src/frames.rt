@@ -6,7 +6,7 @@ ghost use Rattle.sq_rules.specs.Facts.{facts_of};
 use crate::fixtures::{Client, page};
 use crate::groups::{put, shown};
 use crate::parts::config_of;
-use sq_base::{Answer, Answers, Cause, Fields, Listed, Moment, Steps, Text, What};
+use sq_base::{Answer, Answers, Cause, Listed, Moment, Steps, Text, What};
 use sq_eval::{Value, evaluate};
 use sq_facts::read_facts;
 use sq_frames::{Frames, Given, Place, Ran, Slots};
@@ -14,9 +14,9 @@ use sq_rules::{Acl, Facts, Sight, Why};
 use sq_urlmatch::Setup;
 use std::alloc::Global;
 use std::marker::Brand;
+use std::process::Abort;
 use std::sync::Arc;
 use std::sync::ledger::{Blank, Ledger};
-use std::test::Fail;
 
 /// The parts of a configuration as in `parts`, behind a class `c`, a list `a` that does not hold, and lists `x`, `y`
 /// and `z` that ask a helper; then what the rules come to where each question is answered ERR, and how many times `a`
@@ -93,13 +93,14 @@ Ebc Edc Eec Efc Eic Ejc Ekc Elc Emc Enc Eoc Epc Eqc Erc Esc Etc Euc Ra Ra Ra Ra 
 /// number to the base 3, the first question by the last digit. At each stop the place is compared with the evaluation
 /// over the answers so far.
 fn come_to<L: Ledger>(
+    rt: &impl Abort,
     alloc: Global,
     slots: &Arc<Slots>,
     facts: &Facts,
     sight: &Sight,
     ways: u8,
     blank: Blank,
-) -> Result<String, Fail>
+) -> String
     requires name { blank.name ≡ L.name }
     requires parts { blank.parts ≡ L.parts }
     requires whole { 0 < blank.parts }
@@ -108,27 +109,37 @@ fn come_to<L: Ledger>(
     let config = slots.config();
     let mut steps = Steps::<L>::open(blank);
     let mut answers = Answers::new(alloc);
-    let mut frames = Frames::start(alloc, slots)?;
+    let mut frames = Frames::start(alloc, slots).expect(rt, "memory");
     let mut left = ways;
     'needs: for _ in 0..=20 {
         let ran = frames.run(facts, &mut steps);
-        let value = evaluate(alloc, config, facts, sight, &answers)?;
-        if !is_same(config.acls(), ran, &value) {
-            return Err(Fail::new("not as the evaluation"));
-        }
-        match (ran, value) {
-            (Ran::Need(_), Value::Need { acl: _, key }) => {
-                frames.give(value_of(left % 3));
-                put(&mut answers, answer(alloc, key, left % 3))?;
-                left /= 3;
-            }
-            (_, value) => {
-                let came = shown(alloc, config.acls(), &value)?;
-                return Ok(format!(in alloc; "{came} {}", frames.looks())?);
-            }
-        }
+        let value = evaluate(alloc, config, facts, sight, &answers).expect(rt, "memory");
+        assert!(rt;
+            is_same(config.acls(), ran, &value),
+            "not as the evaluation"
+        );
+        let Ran::Need(_) = ran else {
+            return outcome(rt, alloc, config.acls(), &value, frames.looks());
+        };
+        frames.give(value_of(left % 3));
+        put(rt, &mut answers, answer(alloc, key_in(rt, value), left % 3));
+        left /= 3;
     }
-    Err(Fail::new("too many needs"))
+    panic!(rt; "too many needs")
+}
+
+/// What the rules came to and how many looks it took, in words.
+fn outcome(rt: &impl Abort, alloc: Global, acls: &[Acl], value: &Value, looks: u64) -> String {
+    let came = shown(rt, alloc, acls, value);
+    format!(in alloc; "{came} {looks}").expect(rt, "memory")
+}
+
+/// The key that is needed.
+fn key_in(rt: &impl Abort, value: Value) -> Text {
+    match value {
+        Value::Need { acl: _, key } => key,
+        Value::Verdict(_) => panic!(rt; "no need"),
+    }
 }
 
 /// The class, the list that does not hold, and those that ask a helper.
@@ -202,27 +213,26 @@ fn is_place(acls: &[Acl], place: Place, why: &Why) -> bool {
 }
 
 /// A case: each way of answering the questions, of which the first, by ERR, comes to what is stated.
-fn runs(alloc: Global, stated: &str, wanted: &str, sight: &Sight) -> Result<bool, Fail> {
-    let config = config_of(alloc, FRONT, stated)?;
-    let mut setup = Setup::make(alloc, config)?;
-    let facts = read_facts(alloc, &mut setup, sight)?;
-    let slots = Arc::new(alloc, Slots::new(alloc, setup.config())?)?;
+fn runs(rt: &impl Abort, alloc: Global, stated: &str, wanted: &str, sight: &Sight) -> bool {
+    let config = config_of(rt, alloc, FRONT, stated);
+    let mut setup = Setup::make(alloc, config).expect(rt, "patterns");
+    let facts = read_facts(alloc, &mut setup, sight).expect(rt, "memory");
+    let slots = Slots::new(alloc, setup.config()).expect(rt, "memory");
+    let slots = Arc::new(alloc, slots).expect(rt, "memory");
+    let mut are_as_wanted = true;
     for ways in 0..27 {
-        let came = come_to::<Brand>(alloc, &slots, &facts, sight, ways, Blank::new(1))?;
-        if ways == 0 && came.as_str() != wanted {
-            return Ok(false);
-        }
+        let came = come_to::<Brand>(rt, alloc, &slots, &facts, sight, ways, Blank::new(1));
+        are_as_wanted = are_as_wanted && (ways != 0 || came.as_str() == wanted);
     }
-    Ok(true)
+    are_as_wanted
 }
 
 #[test]
-fn frames_stop_where_the_evaluation_does(rt: HostRuntime) -> Result<(), Fail> {
+fn frames_stop_where_the_evaluation_does(rt: HostRuntime) {
     let alloc = rt.alloc();
-    let sight = page(alloc, Client::Office, Fields::new(alloc))?;
+    let sight = page(&rt, alloc, Client::Office);
     for case in CASES.lines() {
-        let (stated, wanted) = case.split_once("=> ").ok_or("no outcome")?;
-        assert!(rt; runs(alloc, stated, wanted, &sight)?, "{case}");
+        let (stated, wanted) = case.split_once("=> ").expect(&rt, "an outcome");
+        assert!(rt; runs(&rt, alloc, stated, wanted, &sight), "{case}");
     }
-    Ok(())
 }

@@ -1,11 +1,11 @@
 //! What rules over groups and external acls come to.
-use crate::fixtures::{Client, page, setup_of};
-use sq_base::{Answer, Answers, Cause, Fields, Listed, Moment, Text, WantOfMemory, What};
+use crate::fixtures::{Client, page, setup_of, text};
+use sq_base::{Answer, Answers, Cause, Listed, Moment, What};
 use sq_eval::{Value, evaluate};
 use sq_facts::read_facts;
 use sq_rules::{Acl, Outcome, Sight, Why};
 use std::alloc::Global;
-use std::test::Fail;
+use std::process::Abort;
 
 /// Of the request for http://a.example/ of client 10.1.2.3 `h` holds and `m` does not. The helper answered
 /// `o` with OK and `e` with ERR; the question for `b` had the fault Bh and that for `q` QueueFull; for `n`
@@ -65,26 +65,25 @@ fn said(alloc: Global, name: u8) -> What {
 }
 
 /// The answer to the question of an acl's name, of one byte.
-fn answer(alloc: Global, name: u8) -> Result<Answer, WantOfMemory> {
-    Ok(Answer {
+fn answer(rt: &impl Abort, alloc: Global, name: u8) -> Answer {
+    Answer {
         class: 0,
-        key: Text::from_slice(alloc, &[name, b' ', b'-'])?,
+        key: text(rt, alloc, &[name, b' ', b'-']),
         what: said(alloc, name),
         question: None,
         date: Moment(0),
         taken: Moment(0),
-    })
+    }
 }
 
 /// Puts an answer, unless one of this class and key is there.
-pub fn put(answers: &mut Answers, answer: Answer) -> Result<(), Fail> {
+pub fn put(rt: &impl Abort, answers: &mut Answers, answer: Answer) {
     for other in answers.as_slice() {
         if other.class == answer.class && other.key == answer.key {
-            return Err(Fail::new("two answers for one key"));
+            panic!(rt; "two answers for one key");
         }
     }
-    answers.push(answer)?;
-    Ok(())
+    answers.push(answer).expect(rt, "memory");
 }
 
 fn words(outcome: &Outcome) -> &'static str {
@@ -92,47 +91,59 @@ fn words(outcome: &Outcome) -> &'static str {
 }
 
 /// What rules came to, in words.
-pub fn shown(alloc: Global, acls: &[Acl], value: &Value) -> Result<String, Fail> {
-    match value {
-        Value::Need { acl, key } => match acls.get(*acl as usize) {
-            Some(acl) => Ok(format!(in alloc; "needs {} for {key}", acl.name)?),
-            None => Err(Fail::new("no such acl")),
-        },
+pub fn shown(rt: &impl Abort, alloc: Global, acls: &[Acl], value: &Value) -> String {
+    let shown = match value {
+        Value::Need { acl, key } => {
+            let acl = acls.get(*acl as usize).expect(rt, "an acl");
+            format!(in alloc; "needs {} for {key}", acl.name)
+        }
         Value::Verdict(outcome) => {
             let allowed = words(outcome);
             match &outcome.why {
-                Why::Rule(rule) => Ok(format!(in alloc; "{allowed} rule {rule}")?),
-                Why::Default => Ok(format!(in alloc; "{allowed} default")?),
-                Why::Empty => Ok(format!(in alloc; "{allowed} empty")?),
-                Why::Fault { rule, acl, cause } => Ok(format!(in alloc;
-                    "{allowed} fault {rule} {acl} {cause:?}"
-                )?),
+                Why::Rule(rule) => format!(in alloc; "{allowed} rule {rule}"),
+                Why::Default => format!(in alloc; "{allowed} default"),
+                Why::Empty => format!(in alloc; "{allowed} empty"),
+                Why::Fault { rule, acl, cause } => {
+                    format!(in alloc; "{allowed} fault {rule} {acl} {cause:?}")
+                }
             }
         }
-    }
+    };
+    shown.expect(rt, "memory")
 }
 
 /// What the acls and these lines come to over what a check sees, in words.
-fn come_to(alloc: Global, lines: &str, sight: &Sight, answers: &Answers) -> Result<String, Fail> {
-    let mut setup = setup_of(alloc, ACLS, lines)?;
-    let facts = read_facts(alloc, &mut setup, sight)?;
-    let value = evaluate(alloc, setup.config(), &facts, sight, answers)?;
-    shown(alloc, setup.config().acls(), &value)
+fn come_to(
+    rt: &impl Abort,
+    alloc: Global,
+    lines: &str,
+    sight: &Sight,
+    answers: &Answers,
+) -> String {
+    let mut setup = setup_of(rt, alloc, ACLS, lines);
+    let facts = read_facts(alloc, &mut setup, sight).expect(rt, "memory");
+    let value = evaluate(alloc, setup.config(), &facts, sight, answers).expect(rt, "memory");
+    shown(rt, alloc, setup.config().acls(), &value)
+}
+
+/// The answers to all questions but that for `n`.
+fn answers(rt: &impl Abort, alloc: Global) -> Answers {
+    let mut answers = Answers::new(alloc);
+    for &name in b"oebq" {
+        put(rt, &mut answers, answer(rt, alloc, name));
+    }
+    answers
 }
 
 #[test]
-fn rules_come_to_what_their_terms_say(rt: HostRuntime) -> Result<(), Fail> {
+fn rules_come_to_what_their_terms_say(rt: HostRuntime) {
     let alloc = rt.alloc();
-    let sight = page(alloc, Client::Office, Fields::new(alloc))?;
-    let mut answers = Answers::new(alloc);
-    for &name in b"oebq" {
-        put(&mut answers, answer(alloc, name)?)?;
-    }
+    let sight = page(&rt, alloc, Client::Office);
+    let answers = answers(&rt, alloc);
     for case in CASES.lines() {
-        let (stated, wanted) = case.rsplit_once(" => ").ok_or("no outcome")?;
-        let (_, lines) = stated.split_once(": ").ok_or("no lines")?;
-        let came = come_to(alloc, lines, &sight, &answers)?;
+        let (stated, wanted) = case.rsplit_once(" => ").expect(&rt, "an outcome");
+        let (_, lines) = stated.split_once(": ").expect(&rt, "lines");
+        let came = come_to(&rt, alloc, lines, &sight, &answers);
         assert!(rt; came.as_str() == wanted, "{case}: {came}");
     }
-    Ok(())
 }

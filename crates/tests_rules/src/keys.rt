@@ -1,12 +1,11 @@
 //! The key that a helper is asked.
-use crate::fixtures::{Client, page, setup_of, sight};
-use sq_base::{Field, Fields, Listed, Text, Texts};
+use crate::fixtures::{Client, page, setup_of, sight, text};
+use crate::parts::{built, parts_of};
+use sq_base::{Field, Fields, Text, Texts};
 use sq_format::key;
-use sq_rules::{
-    AclPart, AclParts, BodyPart, Class, Classes, Config, Parts, PoolParts, RuleParts, Sight, Tokens,
-};
+use sq_rules::{AclPart, AclParts, BodyPart, Class, Classes, Config, Sight, Tokens};
 use std::alloc::Global;
-use std::test::Fail;
+use std::process::Abort;
 
 /// A line for each key: FORMAT, the name of an acl and its arguments, a method and target, the fields of the
 /// request with `;` between, and the key.
@@ -58,83 +57,59 @@ static KEYS: &str = "\
 ";
 
 /// The list of the fields that a text states, each as its name, `:` and its value.
-fn fields_of(alloc: Global, stated: &str) -> Result<Fields, Fail> {
+fn fields_of(rt: &impl Abort, alloc: Global, stated: &str) -> Fields {
     let mut fields = Fields::new(alloc);
     for field in stated.split(';') {
         if let Some((name, value)) = field.split_once(':') {
-            fields.push(Field {
-                name: Text::from_slice(alloc, name.as_bytes())?,
-                value: Text::from_slice(alloc, value.as_bytes())?,
-            })?;
+            let name = text(rt, alloc, name.as_bytes());
+            let value = text(rt, alloc, value.as_bytes());
+            fields.push(Field { name, value }).expect(rt, "memory");
         }
     }
-    Ok(fields)
+    fields
 }
 
 /// The key of an acl, a name and arguments, of a class of this FORMAT.
-fn key_of(alloc: Global, format: &str, acl: &str, sight: &Sight) -> Result<Text, Fail> {
+fn key_of(rt: &impl Abort, alloc: Global, format: &str, acl: &str, sight: &Sight) -> Text {
     let (name, arguments) = acl.split_once(' ').unwrap_or((acl, ""));
-    let class = format!(in alloc; "external_acl_type v {format} /bin/h\n")?;
-    let line = format!(in alloc; "acl {name} external v {arguments}")?;
-    let setup = setup_of(alloc, &class, &line)?;
+    let lines = format!(in alloc;
+        "external_acl_type v {format} /bin/h\nacl {name} external v {arguments}"
+    ).expect(rt, "memory");
+    let setup = setup_of(rt, alloc, &lines, "");
     let acls = setup.config().acls().len() as u32;
-    Ok(key(alloc, setup.config(), acls.saturating_sub(1), sight)?)
+    key(alloc, setup.config(), acls.saturating_sub(1), sight).expect(rt, "memory")
 }
 
 /// The key of a line of the table before its last `|`.
-fn key_asked(alloc: Global, asked: &str) -> Result<Text, Fail> {
-    let (format, rest) = asked.split_once('|').ok_or("no acl")?;
-    let (acl, rest) = rest.split_once('|').ok_or("no request")?;
-    let (request, fields) = rest.split_once('|').ok_or("no fields")?;
-    let (method, target) = request.split_once(' ').ok_or("no target")?;
-    let fields = fields_of(alloc, fields)?;
-    let target = target.as_bytes();
-    let sight = sight(alloc, Client::Office, method.as_bytes(), target, fields)?;
-    key_of(alloc, format, acl, &sight)
+fn key_asked(rt: &impl Abort, alloc: Global, asked: &str) -> Text {
+    let (format, rest) = asked.split_once('|').expect(rt, "an acl");
+    let (acl, rest) = rest.split_once('|').expect(rt, "a request");
+    let (request, fields) = rest.split_once('|').expect(rt, "fields");
+    let (method, target) = request.split_once(' ').expect(rt, "a target");
+    let fields = fields_of(rt, alloc, fields);
+    let (method, target) = (method.as_bytes(), target.as_bytes());
+    let sight = sight(rt, alloc, Client::Office, method, target, fields);
+    key_of(rt, alloc, format, acl, &sight)
 }
 
 #[test]
-fn a_key_tells_the_request_its_fields_and_the_acl(rt: HostRuntime) -> Result<(), Fail> {
+fn a_key_tells_the_request_its_fields_and_the_acl(rt: HostRuntime) {
     let alloc = rt.alloc();
     for line in KEYS.lines() {
-        let (asked, wanted) = line.rsplit_once('|').ok_or("no key")?;
-        let key = key_asked(alloc, asked)?;
+        let (asked, wanted) = line.rsplit_once('|').expect(&rt, "a key");
+        let key = key_asked(&rt, alloc, asked);
         assert!(rt; key.as_bytes() == wanted.as_bytes(), "{line}: {key}");
     }
-    let sight = page(alloc, Client::Abroad, Fields::new(alloc))?;
-    let key = key_of(alloc, "%>a", "x", &sight)?;
+    let sight = page(&rt, alloc, Client::Abroad);
+    let key = key_of(&rt, alloc, "%>a", "x", &sight);
     assert!(rt; key.as_bytes() == b"2001:db8::1 -".as_slice(), "{key}");
-    Ok(())
-}
-
-/// The configuration of these classes and acls alone, where they are not too many.
-#[tactic(auto, using(sq_rules::proofs::LookupLaws::stated_most))]
-fn config_of(alloc: Global, classes: Classes, acls: AclParts) -> Result<Config, Fail> {
-    if classes.len() > 64 || acls.len() > 4_096 {
-        return Err(Fail::new("too many parts"));
-    }
-    let parts = Parts {
-        source: Text::new(alloc),
-        dst_lookup: false,
-        classes,
-        acls,
-        rules: RuleParts::new(alloc),
-        pools: PoolParts::new(alloc),
-        initial: 50,
-        port: 3128,
-        rewriter: None,
-        headers: Listed::new(alloc),
-        notices: Listed::new(alloc),
-    };
-    let config = Config::build(alloc, parts)?;
-    Ok(config)
 }
 
 /// A class whose FORMAT has no token, and an acl of it with these arguments.
-fn tokenless(alloc: Global, arguments: Texts) -> Result<Config, Fail> {
+fn tokenless(rt: &impl Abort, alloc: Global, arguments: Texts) -> Config {
     let mut classes = Classes::new(alloc);
-    classes.push(Class {
-        name: Text::from_slice(alloc, b"v")?,
+    let class = Class {
+        name: text(rt, alloc, b"v"),
         ttl: 60,
         negative_ttl: 60,
         grace: 0,
@@ -145,46 +120,52 @@ fn tokenless(alloc: Global, arguments: Texts) -> Result<Config, Fail> {
         queue_size: 2,
         format: Tokens::new(alloc),
         words: Texts::new(alloc),
-    })?;
+    };
+    classes.push(class).expect(rt, "memory");
     let mut acls = AclParts::new(alloc);
-    let class = Text::from_slice(alloc, b"v")?;
-    acls.push(AclPart {
-        name: Text::from_slice(alloc, b"x")?,
+    let class = text(rt, alloc, b"v");
+    let acl = AclPart {
+        name: text(rt, alloc, b"x"),
         body: BodyPart::External { class, arguments },
-    })?;
-    config_of(alloc, classes, acls)
+    };
+    acls.push(acl).expect(rt, "memory");
+    built(rt, alloc, parts_of(alloc, None, classes, acls))
 }
 
 #[test]
-fn a_class_of_parts_asks_for_the_arguments_too(rt: HostRuntime) -> Result<(), Fail> {
+fn a_class_of_parts_asks_for_the_arguments_too(rt: HostRuntime) {
     let alloc = rt.alloc();
     let mut arguments = Texts::new(alloc);
-    arguments.push(Text::from_slice(alloc, b"a b")?)?;
-    arguments.push(Text::from_slice(alloc, b"\xff")?)?;
-    arguments.push(Text::new(alloc))?;
-    let config = tokenless(alloc, arguments)?;
-    let sight = page(alloc, Client::Office, Fields::new(alloc))?;
-    let key = key(alloc, &config, 0, &sight)?;
+    arguments
+        .push(text(&rt, alloc, b"a b"))
+        .expect(&rt, "memory");
+    arguments
+        .push(text(&rt, alloc, b"\xff"))
+        .expect(&rt, "memory");
+    arguments.push(Text::new(alloc)).expect(&rt, "memory");
+    let config = tokenless(&rt, alloc, arguments);
+    let sight = page(&rt, alloc, Client::Office);
+    let key = key(alloc, &config, 0, &sight).expect(&rt, "memory");
     assert!(rt; key.as_bytes() == b"a%20b %FF ".as_slice(), "{key}");
-    Ok(())
 }
 
 #[test]
-fn a_key_may_be_longer_than_one_that_is_asked(rt: HostRuntime) -> Result<(), Fail> {
+fn a_key_may_be_longer_than_one_that_is_asked(rt: HostRuntime) {
     let alloc = rt.alloc();
     for length in [8_190_usize, 8_191] {
-        let mut target = Text::from_slice(alloc, b"http://a.example/")?;
-        let rest = vec![in alloc; b'a'; length - 17]?;
-        target.append(&rest)?;
+        let mut target = text(&rt, alloc, b"http://a.example/");
+        let rest = vec![in alloc; b'a'; length - 17].expect(&rt, "memory");
+        target.append(&rest).expect(&rt, "memory");
+        let fields = Fields::new(alloc);
         let sight = sight(
+            &rt,
             alloc,
             Client::Office,
             b"GET",
             target.as_bytes(),
-            Fields::new(alloc),
-        )?;
-        let key = key_of(alloc, "%>ru", "x", &sight)?;
+            fields,
+        );
+        let key = key_of(&rt, alloc, "%>ru", "x", &sight);
         assert!(rt; key.len() == length + 2);
     }
-    Ok(())
 }

@@ -1,5 +1,5 @@
 //! Questions about hosts, with the replies to them, and what passes a pipe.
-use crate::fixtures::setup_of;
+use crate::fixtures::{setup_of, text};
 use sq_base::{Addr, Addrs, ProcNo, Text};
 use sq_dst::{PipeIn, PipeOut, answer_lines, pipe};
 use sq_keeper::{Handed, KeeperEnd, MemDesk};
@@ -7,8 +7,8 @@ use sq_outside::{Out, Source, write_all};
 use sq_outside_mem::{MemName, MemResolver, MemSource};
 use sq_rules::Config;
 use std::alloc::Global;
+use std::process::Abort;
 use std::sync::Wait;
-use std::test::Fail;
 use std::thread::{self, Threads, join};
 
 static CONF: &str = "dst_lookup on; acl lo dst 127.0.0.0/8; acl two dst 2001:db8::/32 10.0.0.1; \
@@ -48,69 +48,76 @@ a.example lo%20lookup - - => BH\n\
 - => BH\n => BH\n - => BH\n  - => BH\n\
 ";
 
-fn addrs_of(alloc: Global, words: &str) -> Result<Addrs, Fail> {
+fn addrs_of(rt: &impl Abort, alloc: Global, words: &str) -> Addrs {
     let mut addrs = Addrs::new(alloc);
     for word in words.split(' ') {
-        let number: u32 = word.parse().map_err(|_| "no number")?;
-        addrs.push(Addr {
+        let number: u32 = word.parse().expect(rt, "a number");
+        let addr = Addr {
             v6: false,
             number: u128::from(number),
-        })?;
+        };
+        addrs.push(addr).expect(rt, "memory");
     }
-    Ok(addrs)
+    addrs
 }
 
-fn names_of(alloc: Global) -> Result<Vec<MemName>, Fail> {
+fn names_of(rt: &impl Abort, alloc: Global) -> Vec<MemName> {
     let mut names = Vec::new(alloc);
     for line in HOSTS.lines() {
-        let (host, words) = line.split_once(' ').ok_or("no address")?;
-        let host = Text::from_slice(alloc, host.as_bytes())?;
-        let addrs = addrs_of(alloc, words)?;
-        names.push(MemName { host, addrs })?;
+        let (host, words) = line.split_once(' ').expect(rt, "an address");
+        let host = text(rt, alloc, host.as_bytes());
+        let addrs = addrs_of(rt, alloc, words);
+        names.push(MemName { host, addrs }).expect(rt, "memory");
     }
-    Ok(names)
+    names
 }
 
 /// The questions, a line each.
-fn questions(alloc: Global) -> Result<Text, Fail> {
+fn questions(rt: &impl Abort, alloc: Global) -> Text {
     let mut text = Text::new(alloc);
     for row in QUESTIONS.lines() {
-        let (question, _reply) = row.split_once(" => ").ok_or("no reply")?;
-        text.append(question.as_bytes())?;
-        text.push(b'\n')?;
+        let (question, _reply) = row.split_once(" => ").expect(rt, "a reply");
+        text.append(question.as_bytes()).expect(rt, "memory");
+        text.push(b'\n').expect(rt, "memory");
     }
-    Ok(text)
+    text
+}
+
+/// Adds a question with its reply.
+fn put_line(rt: &impl Abort, text: &mut Text, row: &str, reply: &Text) {
+    let (question, _reply) = row.split_once(" => ").expect(rt, "a reply");
+    text.append(question.as_bytes()).expect(rt, "memory");
+    text.append(b" => ").expect(rt, "memory");
+    text.append(reply.as_bytes()).expect(rt, "memory");
+    text.push(b'\n').expect(rt, "memory");
 }
 
 /// What a desk was handed, a line each: the reply behind its question, or the end.
-fn shown(alloc: Global, handed: &[Handed]) -> Result<Text, Fail> {
+fn shown(rt: &impl Abort, alloc: Global, handed: &[Handed]) -> Text {
     let mut text = Text::new(alloc);
     let mut rows = QUESTIONS.lines();
     for one in handed {
         match one {
             Handed::Line(_, reply) => {
-                let row = rows.next().ok_or("no question")?;
-                let (question, _reply) = row.split_once(" => ").ok_or("no reply")?;
-                text.append(question.as_bytes())?;
-                text.append(b" => ")?;
-                text.append(reply.as_bytes())?;
-                text.push(b'\n')?;
+                let row = rows.next().expect(rt, "a question");
+                put_line(rt, &mut text, row, reply);
             }
-            Handed::Stop(_) => text.append(b"stop")?,
-            Handed::Died(_) => text.append(b"died")?,
+            Handed::Stop(_) => text.append(b"stop").expect(rt, "memory"),
+            Handed::Died(_) => text.append(b"died").expect(rt, "memory"),
         }
     }
-    Ok(text)
+    text
 }
 
-fn answered<R: Wait + Sync>(
+/// What the questions come to over these names, where these look-ups fail, with the end.
+fn answered<R: Wait + Sync + Abort>(
     rt: &R,
     alloc: Global,
     config: &Config,
-    questions: Text,
     names: &[MemName],
     fails: Vec<u64>,
-) -> Result<(KeeperEnd, Text), Fail> {
+) -> Text {
+    let questions = questions(rt, alloc);
     let mut source = MemSource::new(questions.into_vec(), 7, Vec::new(alloc));
     let mut resolver = MemResolver::new(alloc, names, fails);
     let mut desk = MemDesk::new(alloc, 99, Vec::new(alloc));
@@ -123,51 +130,51 @@ fn answered<R: Wait + Sync>(
         ProcNo(3),
         &mut desk,
     );
-    let handed = desk.handed().ok_or("not all was kept")?;
-    let text = shown(alloc, handed)?;
-    Ok((end, text))
+    assert!(rt; end == KeeperEnd::Ended, "the questions did not end");
+    let handed = desk.handed().expect(rt, "all that was handed");
+    shown(rt, alloc, handed)
 }
 
 /// What the questions come to where these look-ups fail, with the end.
-fn all_answered<R: Wait + Sync>(rt: &R, alloc: Global, fails: Vec<u64>) -> Result<Text, Fail> {
-    let setup = setup_of(alloc, "", CONF)?;
-    let names = names_of(alloc)?;
-    let asked = questions(alloc)?;
-    let (end, text) = answered(rt, alloc, setup.config(), asked, names.as_slice(), fails)?;
-    if end != KeeperEnd::Ended {
-        return Err(Fail::new("the questions did not end"));
-    }
-    Ok(text)
+fn all_answered<R: Wait + Sync + Abort>(rt: &R, alloc: Global, fails: Vec<u64>) -> Text {
+    let setup = setup_of(rt, alloc, "", CONF);
+    let names = names_of(rt, alloc);
+    answered(rt, alloc, setup.config(), names.as_slice(), fails)
 }
 
 /// The questions with their replies, of which the first is another, and the end.
-fn wanted(alloc: Global, first: &[u8]) -> Result<Text, Fail> {
-    let (question, _reply) = QUESTIONS.split_once(" => OK\n").ok_or("no first question")?;
-    let rest = QUESTIONS.as_bytes().get(question.len()..).ok_or("no rest")?;
-    let rest = rest.get(b" => OK".len()..).ok_or("no rest")?;
-    let mut text = Text::from_slice(alloc, question.as_bytes())?;
-    text.append(b" => ")?;
-    text.append(first)?;
-    text.append(rest)?;
-    text.append(b"died")?;
-    Ok(text)
+fn wanted(rt: &impl Abort, alloc: Global, first: &[u8]) -> Text {
+    let (question, _reply) = QUESTIONS
+        .split_once(" => OK\n")
+        .expect(rt, "a first question");
+    let rest = QUESTIONS
+        .as_bytes()
+        .get(question.len()..)
+        .expect(rt, "a rest");
+    let rest = rest.get(b" => OK".len()..).expect(rt, "a rest");
+    let mut text = text(rt, alloc, question.as_bytes());
+    text.append(b" => ").expect(rt, "memory");
+    text.append(first).expect(rt, "memory");
+    text.append(rest).expect(rt, "memory");
+    text.append(b"died").expect(rt, "memory");
+    text
 }
 
 #[test]
-fn each_question_has_its_reply(rt: HostRuntime) -> Result<(), Fail> {
-    let text = all_answered(&rt, rt.alloc(), Vec::new(rt.alloc()))?;
-    let wanted = wanted(rt.alloc(), b"OK")?;
+fn each_question_has_its_reply(rt: HostRuntime) {
+    let alloc = rt.alloc();
+    let text = all_answered(&rt, alloc, Vec::new(alloc));
+    let wanted = wanted(&rt, alloc, b"OK");
     assert!(rt; text == wanted, "{text}");
-    Ok(())
 }
 
 #[test]
-fn a_look_up_that_fails_is_told_of_its_question_alone(rt: HostRuntime) -> Result<(), Fail> {
-    let fails = Vec::from_slice(rt.alloc(), &[1])?;
-    let text = all_answered(&rt, rt.alloc(), fails)?;
-    let wanted = wanted(rt.alloc(), b"BH")?;
+fn a_look_up_that_fails_is_told_of_its_question_alone(rt: HostRuntime) {
+    let alloc = rt.alloc();
+    let fails = Vec::from_slice(alloc, &[1]).expect(&rt, "memory");
+    let text = all_answered(&rt, alloc, fails);
+    let wanted = wanted(&rt, alloc, b"BH");
     assert!(rt; text == wanted, "{text}");
-    Ok(())
 }
 
 /// Writes so many pieces of 10 bytes, and lets the half go.
@@ -205,14 +212,13 @@ fn passed<R: Threads + Wait + Sync>(rt: &R, to: PipeIn<R>, from: PipeOut<R>) -> 
 }
 
 #[test]
-fn what_is_written_to_a_pipe_is_read_to_its_end(rt: HostRuntime) -> Result<(), Fail> {
-    let (to, from) = pipe(&rt, rt.alloc())?;
+fn what_is_written_to_a_pipe_is_read_to_its_end(rt: HostRuntime) {
+    let (to, from) = pipe(&rt, rt.alloc()).expect(&rt, "memory");
     assert!(rt; passed(&rt, to, from) == (true, 100_000));
     // Nobody reads any more: what is written is dropped.
-    let (to, from) = pipe(&rt, rt.alloc())?;
+    let (to, from) = pipe(&rt, rt.alloc()).expect(&rt, "memory");
     drop(from);
     assert!(rt; writes(to, 10_000));
-    Ok(())
 }
 
 /// Reads a few bytes, gives the writer time to fill the pipe, and lets the half go.
@@ -230,17 +236,14 @@ fn left<R: Threads + Wait + Sync>(rt: &R, to: PipeIn<R>, from: PipeOut<R>) -> (b
 }
 
 #[test]
-fn who_waits_for_room_in_a_pipe_goes_on_where_its_reader_goes(rt: HostRuntime) -> Result<(), Fail> {
-    let (to, from) = pipe(&rt, rt.alloc())?;
+fn who_waits_for_room_in_a_pipe_goes_on_where_its_reader_goes(rt: HostRuntime) {
+    let (to, from) = pipe(&rt, rt.alloc()).expect(&rt, "memory");
     assert!(rt; left(&rt, to, from) == (true, true));
-    Ok(())
 }
 
 #[test]
-fn a_pipe_that_is_closed_has_what_was_written_and_then_its_end(
-    rt: HostRuntime,
-) -> Result<(), Fail> {
-    let (mut to, mut from) = pipe(&rt, rt.alloc())?;
+fn a_pipe_that_is_closed_has_what_was_written_and_then_its_end(rt: HostRuntime) {
+    let (mut to, mut from) = pipe(&rt, rt.alloc()).expect(&rt, "memory");
     let mut chunk = [0u8; 64];
     assert!(rt; write_all(&mut to, b"0123456789").is_ok());
     to.close();
@@ -248,5 +251,4 @@ fn a_pipe_that_is_closed_has_what_was_written_and_then_its_end(
     assert!(rt; chunk.starts_with(b"0123456789"));
     assert!(rt; write_all(&mut to, b"more").is_ok());
     assert!(rt; matches!(from.read(&mut chunk), Ok(0)));
-    Ok(())
 }

@@ -1,11 +1,10 @@
 //! The patterns of url_regex lists: found in a text, or none.
-use sq_base::{Listed, Text};
-use sq_rules::{
-    AclPart, AclParts, BodyPart, Classes, Config, Find, Finds, Leaf, Parts, PoolParts, RuleParts,
-};
+use crate::fixtures::text;
+use crate::parts::{built, parts_of};
+use sq_rules::{AclPart, AclParts, BodyPart, Classes, Find, Finds, Leaf};
 use sq_urlmatch::{Setup, SetupFault};
 use std::alloc::Global;
-use std::test::Fail;
+use std::process::Abort;
 
 /// Patterns of the second of two lists, `-i` or `+i` before each, a text, and whether some pattern is
 /// found in it. `cases/patterns.txt` has those that a line of squid.conf and a request show.
@@ -28,73 +27,65 @@ static FAULTS: [(&str, &str, Option<(u32, u32)>); 7] = [
 ];
 
 /// A list of patterns.
-fn list(alloc: Global, name: &[u8], patterns: &str) -> Result<AclPart, Fail> {
+fn list(rt: &impl Abort, alloc: Global, name: &[u8], patterns: &str) -> AclPart {
     let mut finds = Finds::new(alloc);
     let mut fold = false;
     for word in patterns.split_whitespace() {
         match word {
             "-i" => fold = true,
             "+i" => fold = false,
-            _ => finds.push(Find {
-                pattern: Text::from_slice(alloc, word.as_bytes())?,
-                fold,
-            })?,
+            _ => {
+                let pattern = text(rt, alloc, word.as_bytes());
+                finds.push(Find { pattern, fold }).expect(rt, "memory");
+            }
         }
     }
-    Ok(AclPart {
-        name: Text::from_slice(alloc, name)?,
+    AclPart {
+        name: text(rt, alloc, name),
         body: BodyPart::Leaf(Leaf::UrlRegex(finds)),
-    })
+    }
 }
 
 /// A configuration with these two lists of patterns.
-#[tactic(auto, using(sq_rules::proofs::LookupLaws::stated_most))]
-fn setup(alloc: Global, first: &str, second: &str) -> Result<Result<Setup, SetupFault>, Fail> {
+fn setup(rt: &impl Abort, alloc: Global, first: &str, second: &str) -> Result<Setup, SetupFault> {
     let mut acls = AclParts::new(alloc);
-    acls.push(list(alloc, b"first", first)?)?;
-    acls.push(list(alloc, b"second", second)?)?;
-    if acls.len() > 4_096 {
-        return Err(Fail::new("too many lists"));
-    }
-    let parts = Parts {
-        source: Text::new(alloc),
-        dst_lookup: false,
-        classes: Classes::new(alloc),
-        acls,
-        rules: RuleParts::new(alloc),
-        pools: PoolParts::new(alloc),
-        initial: 50,
-        port: 3128,
-        rewriter: None,
-        headers: Listed::new(alloc),
-        notices: Listed::new(alloc),
-    };
-    let config = Config::build(alloc, parts)?;
-    Ok(Setup::make(alloc, config))
+    acls.push(list(rt, alloc, b"first", first))
+        .expect(rt, "memory");
+    acls.push(list(rt, alloc, b"second", second))
+        .expect(rt, "memory");
+    let config = built(rt, alloc, parts_of(alloc, None, Classes::new(alloc), acls));
+    Setup::make(alloc, config)
+}
+
+/// Whether a pattern of the list at this place is found in a text.
+fn is_found(rt: &impl Abort, alloc: Global, setup: &mut Setup, acl: u32, subject: &str) -> bool {
+    setup
+        .is_match(alloc, acl, subject.as_bytes())
+        .expect(rt, "memory")
 }
 
 #[test]
-fn patterns_are_found_in_these_texts(rt: HostRuntime) -> Result<(), Fail> {
+fn patterns_are_found_in_these_texts(rt: HostRuntime) {
     let alloc = rt.alloc();
     for &(patterns, subject, found) in &FOUND {
-        let mut setup = setup(alloc, "+i never", patterns)??;
-        let subject = subject.as_bytes();
-        assert!(rt; setup.is_match(alloc, 1, subject)? == found, "{patterns}");
-        assert!(rt; !setup.is_match(alloc, 0, subject)?, "{patterns}");
-        assert!(rt; !setup.is_match(alloc, 2, subject)?, "{patterns}");
+        let mut setup = setup(&rt, alloc, "+i never", patterns).expect(&rt, "patterns");
+        assert!(rt;
+            is_found(&rt, alloc, &mut setup, 1, subject) == found,
+            "{patterns}"
+        );
+        assert!(rt; !is_found(&rt, alloc, &mut setup, 0, subject), "{patterns}");
+        assert!(rt; !is_found(&rt, alloc, &mut setup, 2, subject), "{patterns}");
     }
-    Ok(())
 }
 
 #[test]
-fn the_first_pattern_that_is_none_is_named(rt: HostRuntime) -> Result<(), Fail> {
+fn the_first_pattern_that_is_none_is_named(rt: HostRuntime) {
     let alloc = rt.alloc();
     for &(first, second, fault) in &FAULTS {
         let expected = fault.map(|(list, pattern)| SetupFault::BadPattern(list, pattern));
         assert!(rt;
-            setup(alloc, first, second)?.err() == expected,
+            setup(&rt, alloc, first, second).err() == expected,
             "{first} {second}"
         );
     }
-    Ok(())
 }

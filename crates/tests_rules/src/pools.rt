@@ -1,10 +1,9 @@
 //! The delay pool of a check.
 use crate::fixtures::{Client, page, setup_of};
-use sq_base::Fields;
 use sq_eval::pool_of;
 use sq_facts::read_facts;
 use std::alloc::Global;
-use std::test::Fail;
+use std::process::Abort;
 
 /// Of the request for http://a.example/ of client 10.1.2.3 `h` holds and `m` does not.
 static ACLS: &str = "acl h src 10.0.0.0/8\nacl m port 81\nacl g any-of m h\n";
@@ -28,24 +27,24 @@ abroad: delay_pools 1; delay_class 1 3; delay_parameters 1 1/1 1/1 1/1; delay_ac
 
 /// The pool of a check of this client over these lines.
 #[tactic(auto, using(sq_rules::proofs::FactLaws::facts_count))]
-fn pool(alloc: Global, lines: &str, client: Client) -> Result<Option<u32>, Fail> {
-    let sight = page(alloc, client, Fields::new(alloc))?;
-    let mut setup = setup_of(alloc, ACLS, lines)?;
-    let facts = read_facts(alloc, &mut setup, &sight)?;
-    Ok(pool_of(setup.config(), &facts, sight.addr))
+fn pool(rt: &impl Abort, alloc: Global, lines: &str, client: Client) -> Option<u32> {
+    let sight = page(rt, alloc, client);
+    let mut setup = setup_of(rt, alloc, ACLS, lines);
+    let facts = read_facts(alloc, &mut setup, &sight).expect(rt, "memory");
+    pool_of(setup.config(), &facts, sight.addr)
 }
 
 #[test]
-fn a_check_has_the_first_pool_that_allows_it(rt: HostRuntime) -> Result<(), Fail> {
+fn a_check_has_the_first_pool_that_allows_it(rt: HostRuntime) {
     let alloc = rt.alloc();
     for case in CASES.lines() {
-        let (stated, wanted) = case.rsplit_once(" => ").ok_or("no pool")?;
-        let (client, lines) = stated.split_once(": ").ok_or("no lines")?;
+        let (stated, wanted) = case.rsplit_once(" => ").expect(&rt, "a pool");
+        let (client, lines) = stated.split_once(": ").expect(&rt, "lines");
         let client = match client {
             "office" => Client::Office,
             _ => Client::Abroad,
         };
-        let shown = match pool(alloc, lines, client)? {
+        let shown = match pool(&rt, alloc, lines, client) {
             Some(0) => "0",
             Some(1) => "1",
             Some(_) => "another",
@@ -53,5 +52,4 @@ fn a_check_has_the_first_pool_that_allows_it(rt: HostRuntime) -> Result<(), Fail
         };
         assert!(rt; shown == wanted, "{case}: {shown}");
     }
-    Ok(())
 }

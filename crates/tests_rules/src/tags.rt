@@ -1,12 +1,12 @@
 //! The tag of a check.
-use crate::fixtures::{Client, page, setup_of};
+use crate::fixtures::{Client, page, setup_of, text};
 use crate::groups::put;
-use sq_base::{Answer, Answers, Cause, Fields, Moment, Pair, Pairs, Text, WantOfMemory, What};
+use sq_base::{Answer, Answers, Cause, Moment, Pair, Pairs, Text, What};
 use sq_eval::tag_of;
 use sq_facts::read_facts;
 use sq_rules::Sight;
 use std::alloc::Global;
-use std::test::Fail;
+use std::process::Abort;
 
 /// Of the request for http://a.example/ of client 10.1.2.3 `h` holds and `m` does not. The helper answered `g` with OK
 /// and `i` with ERR, each with a tag, `o` with OK and none, and the question for `b` had a fault; for `n` there is no
@@ -43,44 +43,48 @@ acl a any-of o; acl d all-of a g; http_access allow d => gold\n\
 ";
 
 /// The pair `tag`.
-fn pairs(alloc: Global, tag: &[u8]) -> Result<Pairs, WantOfMemory> {
-    let key = Text::from_slice(alloc, b"tag")?;
-    let value = Text::from_slice(alloc, tag)?;
+fn pairs(rt: &impl Abort, alloc: Global, tag: &[u8]) -> Pairs {
+    let key = text(rt, alloc, b"tag");
+    let value = text(rt, alloc, tag);
     let mut pairs = Pairs::new(alloc);
-    pairs.push(Pair { key, value })?;
-    Ok(pairs)
+    pairs.push(Pair { key, value }).expect(rt, "memory");
+    pairs
 }
 
 /// What the helper said to the question of an acl's name.
-fn said(alloc: Global, name: u8) -> Result<What, WantOfMemory> {
-    Ok(match name {
-        b'g' => What::Yes(pairs(alloc, b"gold")?),
-        b'i' => What::No(pairs(alloc, b"iron")?),
+fn said(rt: &impl Abort, alloc: Global, name: u8) -> What {
+    match name {
+        b'g' => What::Yes(pairs(rt, alloc, b"gold")),
+        b'i' => What::No(pairs(rt, alloc, b"iron")),
         b'o' => What::Yes(Pairs::new(alloc)),
         _ => What::Fault(Cause::Bh),
-    })
+    }
 }
 
 /// The answer to the question of an acl's name, of one byte.
-fn answer(alloc: Global, name: u8) -> Result<Answer, WantOfMemory> {
-    let what = said(alloc, name)?;
-    let key = Text::from_slice(alloc, &[name, b' ', b'-'])?;
-    Ok(Answer {
+fn answer(rt: &impl Abort, alloc: Global, name: u8) -> Answer {
+    Answer {
         class: 0,
-        key,
-        what,
+        key: text(rt, alloc, &[name, b' ', b'-']),
+        what: said(rt, alloc, name),
         question: None,
         date: Moment(0),
         taken: Moment(0),
-    })
+    }
 }
 
 /// The tag of a check over the acls and these lines.
 #[tactic(auto, using(sq_rules::proofs::FactLaws::facts_count))]
-fn tag(alloc: Global, lines: &str, sight: &Sight, answers: &Answers) -> Result<Option<Text>, Fail> {
-    let mut setup = setup_of(alloc, ACLS, lines)?;
-    let facts = read_facts(alloc, &mut setup, sight)?;
-    Ok(tag_of(alloc, setup.config(), &facts, sight, answers)?)
+fn tag(
+    rt: &impl Abort,
+    alloc: Global,
+    lines: &str,
+    sight: &Sight,
+    answers: &Answers,
+) -> Option<Text> {
+    let mut setup = setup_of(rt, alloc, ACLS, lines);
+    let facts = read_facts(alloc, &mut setup, sight).expect(rt, "memory");
+    tag_of(alloc, setup.config(), &facts, sight, answers).expect(rt, "memory")
 }
 
 /// Whether it is this tag, or none.
@@ -91,18 +95,23 @@ fn is(tag: &Option<Text>, wanted: &str) -> bool {
     }
 }
 
-#[test]
-fn a_check_has_the_first_tag_of_its_walk(rt: HostRuntime) -> Result<(), Fail> {
-    let alloc = rt.alloc();
-    let sight = page(alloc, Client::Office, Fields::new(alloc))?;
+/// The answers to all questions but that for `n`.
+fn answers(rt: &impl Abort, alloc: Global) -> Answers {
     let mut answers = Answers::new(alloc);
     for &name in b"giob" {
-        put(&mut answers, answer(alloc, name)?)?;
+        put(rt, &mut answers, answer(rt, alloc, name));
     }
+    answers
+}
+
+#[test]
+fn a_check_has_the_first_tag_of_its_walk(rt: HostRuntime) {
+    let alloc = rt.alloc();
+    let sight = page(&rt, alloc, Client::Office);
+    let answers = answers(&rt, alloc);
     for case in CASES.lines() {
-        let (lines, wanted) = case.rsplit_once(" => ").ok_or("no tag")?;
-        let tag = tag(alloc, lines, &sight, &answers)?;
+        let (lines, wanted) = case.rsplit_once(" => ").expect(&rt, "a tag");
+        let tag = tag(&rt, alloc, lines, &sight, &answers);
         assert!(rt; is(&tag, wanted), "{case}");
     }
-    Ok(())
 }

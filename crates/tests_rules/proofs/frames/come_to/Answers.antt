@@ -1,10 +1,11 @@
 use Rattle.std.proofs.Common.{◌∙◌}
+use Rattle.std.proofs.lemmas.Result.{IfOk-at_ok}
 use Rattle.tests_rules.proofs.frames.come_to.Goals as goal
 
 pub needs-init : goal.needs-init
 needs-init g c = record {
-  over = (0, c.in_ok-frames.ensures.at c.args.facts.now);
-  config = c.in_ok-frames.ensures.config;
+  over = (0, IfOk-at_ok _ c.expect-frames.ensures c.start.ensures.at c.args.facts.now);
+  config = IfOk-at_ok _ c.expect-frames.ensures c.start.ensures.config;
 }
 
 pub needs-preserved : goal.needs-preserved

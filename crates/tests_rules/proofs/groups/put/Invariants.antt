@@ -4,5 +4,5 @@ use Rattle.tests_rules.proofs.groups.put.Given as goal
 
 -- no answer so far is for this class and key
 abbrev pub invariant-loop-other : goal.invariant-loop-other
-invariant-loop-other l = has_answer (drop l.other-index l.fn.answers) l.answer.class l.answer.key
+invariant-loop-other g l = has_answer (drop l.other-index l.fn.answers) l.answer.class l.answer.key
     ≡ has_answer l.fn.answers l.answer.class l.answer.key
