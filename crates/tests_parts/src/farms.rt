@@ -1,8 +1,11 @@
 //! What is due in a farm.
+ghost use Rattle.std.specs.Prelude.{◌<◌};
+
 use crate::fixtures::{Asked, class};
 use sq_base::{Cause, ProcNo, QuestionNo, Text, WantOfMemory};
-use sq_farm::{FarmAct, PutFault, StartFault};
+use sq_farm::{Farm, FarmAct, PutFault, StartFault};
 use std::alloc::Global;
+use std::process::Abort;
 use std::test::Fail;
 
 /// Puts the next question, and says how that was refused, if it was.
@@ -38,20 +41,31 @@ fn sends(asked: &mut Asked, wanted: &[u8]) -> bool {
     }
 }
 
+/// Ends the process unless there is room for one question, before a process starts and while it is asked.
+fn fill(rt: &impl Abort, alloc: Global, asked: &mut Asked) -> Result<(), Fail> {
+    let first = refused(alloc, asked, b"a.example")?;
+    let second = refused(alloc, asked, b"b.example")?;
+    assert!(rt; first == None && second == Some(PutFault::Full));
+    assert!(rt; starts(asked) && rests(asked));
+    assert!(rt; asked.started(alloc, 1) && sends(asked, b"a.example"));
+    let third = refused(alloc, asked, b"c.example")?;
+    assert!(rt; third == Some(PutFault::Full));
+    Ok(())
+}
+
+/// Whether a farm is full, and nothing is due.
+fn is_filled(alloc: Global, farm: &Farm) -> Result<bool, Fail> {
+    Ok(farm.is_full() && !farm.send_due() && matches!(farm.due(alloc)?, None))
+}
+
 /// A process may still be started, so one question may wait; then the queue is full.
 #[test]
 fn a_process_that_may_start_is_room(rt: HostRuntime) -> Result<(), Fail> {
     let alloc = rt.alloc();
     let mut asked = Asked::new(alloc, &class(alloc, 1, 0, 0));
-    let first = refused(alloc, &mut asked, b"a.example")?;
-    let second = refused(alloc, &mut asked, b"b.example")?;
-    assert!(rt; first == None && second == Some(PutFault::Full));
-    assert!(rt; starts(&mut asked) && rests(&mut asked));
-    assert!(rt; asked.started(alloc, 1) && sends(&mut asked, b"a.example"));
-    let third = refused(alloc, &mut asked, b"c.example")?;
+    fill(&rt, alloc, &mut asked)?;
     let farm = asked.farm();
-    assert!(rt; third == Some(PutFault::Full) && farm.is_full() && !farm.send_due());
-    assert!(rt; matches!(farm.due(alloc)?, None));
+    assert!(rt; is_filled(alloc, &farm)?);
     Ok(())
 }
 
@@ -64,21 +78,31 @@ fn are_put(alloc: Global, asked: &mut Asked) -> Result<bool, WantOfMemory> {
     Ok(first == None && starts_one && second == None && starts_another)
 }
 
+/// Ends the process unless both starts fail, no other is open, and one is due when a question is put.
+fn fail_starts(rt: &impl Abort, alloc: Global, asked: &mut Asked) -> Result<(), Fail> {
+    assert!(rt; are_put(alloc, asked)?);
+    assert!(rt; asked.start_failed() == Ok(()) && rests(asked));
+    assert!(rt; asked.start_failed() == Ok(()) && rests(asked));
+    assert!(rt; asked.start_failed() == Err(StartFault::NoStartOpen));
+    let third = refused(alloc, asked, b"c.example")?;
+    assert!(rt; third == None && starts(asked));
+    Ok(())
+}
+
+/// Whether the next lost question is this one, for want of a helper.
+fn loses(farm: &mut Farm, question: u64) -> bool
+    requires { question < 3 }
+{
+    farm.next_lost() == Some((QuestionNo(question), Cause::NoHelper))
+}
+
 /// The last start that fails loses the queue and holds starts, until a question is put.
 #[test]
 fn the_last_failed_start_loses_the_queue(rt: HostRuntime) -> Result<(), Fail> {
     let alloc = rt.alloc();
     let mut asked = Asked::new(alloc, &class(alloc, 2, 0, 10));
-    let are_put = are_put(alloc, &mut asked)?;
-    assert!(rt; are_put);
-    assert!(rt; asked.start_failed() == Ok(()) && rests(&mut asked));
-    assert!(rt; asked.start_failed() == Ok(()) && rests(&mut asked));
-    assert!(rt; asked.start_failed() == Err(StartFault::NoStartOpen));
-    let third = refused(alloc, &mut asked, b"c.example")?;
-    assert!(rt; third == None && starts(&mut asked));
+    fail_starts(&rt, alloc, &mut asked)?;
     let mut farm = asked.farm();
-    assert!(rt; farm.next_lost() == Some((QuestionNo(1), Cause::NoHelper)));
-    assert!(rt; farm.next_lost() == Some((QuestionNo(2), Cause::NoHelper)));
-    assert!(rt; farm.next_lost() == None);
+    assert!(rt; loses(&mut farm, 1) && loses(&mut farm, 2) && farm.next_lost() == None);
     Ok(())
 }

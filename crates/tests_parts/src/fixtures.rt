@@ -1,12 +1,15 @@
-//! What several tests share: classes, texts, farms with open questions.
-ghost use Rattle.std.specs.Prelude.{◌≤◌};
+//! What several tests share: classes, words and numbers of tables, farms with open questions, configurations with pools.
+ghost use Rattle.std.specs.Prelude.{◌≤◌, ◌<◌, IfOk};
 
-use sq_base::{Listed, ProcNo, QuestionNo, Text, Texts, WantOfMemory};
+use sq_base::{Listed, Moment, ProcNo, QuestionNo, Text, Texts, WantOfMemory, number_of};
 use sq_channel::Process;
 use sq_farm::{Farm, FarmAct, FarmFault, PutFault, StartFault};
-use sq_rules::Class;
+use sq_pools::Bucket;
+use sq_rules::{AclParts, Class, Classes, Config, Limits, Parts, PoolPart, PoolParts, RuleParts};
 use std::alloc::Global;
 use std::marker::Model;
+use std::sync::Arc;
+use std::test::Fail;
 
 /// A class with these options.
 pub fn class(alloc: Global, children_max: u32, concurrency: u32, queue_size: u32) -> Class
@@ -28,6 +31,44 @@ pub fn class(alloc: Global, children_max: u32, concurrency: u32, queue_size: u32
         format: Listed::new(alloc),
         words: Texts::new(alloc),
     }
+}
+
+/// A text of this word.
+pub fn said(alloc: Global, word: &str) -> Result<String, Fail> {
+    let mut text = String::new(alloc);
+    text.push_str(word)?;
+    Ok(text)
+}
+
+/// A text of this word and this number.
+pub fn said_of(alloc: Global, word: &str, number: u64) -> Result<String, Fail> {
+    Ok(format!(in alloc; "{word} {number}")?)
+}
+
+/// A text of this number.
+pub fn count(alloc: Global, number: u64) -> Result<String, Fail> {
+    Ok(format!(in alloc; "{number}")?)
+}
+
+/// The small number that a word is.
+pub fn number(word: &str) -> Result<u64, Fail>
+    ensures { IfOk result (λ n. n < 100) }
+{
+    match number_of(word.as_bytes(), 100) {
+        Some(number) => Ok(number),
+        None => Err(Fail::new("no number")),
+    }
+}
+
+/// The number that a word is.
+pub fn amount(word: &str) -> Result<u64, Fail> {
+    Ok(word.parse()?)
+}
+
+/// The moment of so many milliseconds.
+pub fn moment(word: &str) -> Result<Moment, Fail> {
+    let milliseconds = amount(word)?;
+    Ok(Moment(milliseconds.min(9223372036854775807)))
 }
 
 /// A farm that is asked questions in the order of their numbers.
@@ -109,4 +150,48 @@ pub fn process_asked(alloc: Global, concurrency: u32) -> Result<Process, WantOfM
     let mut process = Process::new(alloc, concurrency)?;
     process.ask(QuestionNo(1));
     Ok(process)
+}
+
+/// A pool of a class with these limits, and without rules.
+pub fn pool_of(alloc: Global, class: u8, limits: Limits) -> PoolPart {
+    PoolPart {
+        class,
+        pairs: limits,
+        lists: RuleParts::new(alloc),
+    }
+}
+
+/// A configuration with these pools, whose buckets open at this level.
+pub fn config_of(alloc: Global, pools: PoolParts, level: u8) -> Result<Arc<Config>, Fail> {
+    if pools.len() > 64 || level > 100 {
+        return Err(Fail::new("too many pools, or too high a level"));
+    }
+    let parts = Parts {
+        source: Text::new(alloc),
+        dst_lookup: false,
+        classes: Classes::new(alloc),
+        acls: AclParts::new(alloc),
+        rules: RuleParts::new(alloc),
+        pools,
+        initial: level,
+        port: 3128,
+        rewriter: None,
+        headers: Listed::new(alloc),
+        notices: Listed::new(alloc),
+    };
+    let config = Config::build(alloc, parts)?;
+    Ok(Arc::new(alloc, config)?)
+}
+
+/// A bucket's level and what it opened at, gained, lost and granted.
+pub fn bucket_shown(alloc: Global, bucket: Option<Bucket>) -> Result<String, Fail> {
+    match bucket {
+        Some(b) => {
+            Ok(format!(in alloc;
+                "{} {} {} {} {}",
+                b.level, b.opened, b.restored, b.spilled, b.granted
+            )?)
+        }
+        None => said(alloc, "none"),
+    }
 }

@@ -6,6 +6,7 @@ use sq_cache::{HashSeed, Kept, Taken};
 use sq_rules::{Class, Token, Tokens};
 use std::alloc::Global;
 use std::hash::RandomState;
+use std::process::Abort;
 use std::test::Fail;
 
 /// Options `ttl=`, `negative_ttl=` and `grace=`, whether the answer is OK, its date, a moment, and what is
@@ -92,6 +93,19 @@ fn class(alloc: Global, ttl: u16, negative_ttl: u16, grace: u8) -> Result<Class,
     })
 }
 
+/// The pair of a reply.
+fn pair(alloc: Global) -> Result<Pair, Fail> {
+    let key = Text::from_slice(alloc, b"user")?;
+    let value = Text::from_slice(alloc, b"joe")?;
+    Ok(Pair { key, value })
+}
+
+fn pairs(alloc: Global) -> Result<Pairs, Fail> {
+    let mut pairs = Pairs::new(alloc);
+    pairs.push(pair(alloc)?)?;
+    Ok(pairs)
+}
+
 /// Keeps the answer of question 7 under a key of one letter.
 fn put(
     alloc: Global,
@@ -104,17 +118,13 @@ fn put(
     ensures { kept.new.limit ≡ kept.old.limit }
 {
     let key = Text::from_slice(alloc, &[key])?;
-    let mut pairs = Pairs::new(alloc);
-    pairs.push(Pair {
-        key: Text::from_slice(alloc, b"user")?,
-        value: Text::from_slice(alloc, b"joe")?,
-    })?;
-    let date = Moment(u64::from(date));
-    if yes {
-        kept.put(key, What::Yes(pairs), QuestionNo(7), class, date)?;
+    let pairs = pairs(alloc)?;
+    let what = if yes {
+        What::Yes(pairs)
     } else {
-        kept.put(key, What::No(pairs), QuestionNo(7), class, date)?;
-    }
+        What::No(pairs)
+    };
+    kept.put(key, what, QuestionNo(7), class, Moment(u64::from(date)))?;
     Ok(())
 }
 
@@ -140,17 +150,50 @@ fn is_wanted(taken: &Option<Taken>, case: &Fresh) -> bool {
     }
 }
 
+/// Whether a peek at a key gives what a case says.
+fn peek_gives(
+    alloc: Global,
+    kept: &Kept,
+    class: &Class,
+    key: &Text,
+    case: &Fresh,
+) -> Result<bool, Fail> {
+    let peeked = kept.peek(alloc, key, class, Moment(u64::from(case.5)))?;
+    Ok(is_wanted(&peeked, case))
+}
+
+/// Whether a take of a key gives what a case says.
+fn take_gives(
+    alloc: Global,
+    kept: &mut Kept,
+    class: &Class,
+    key: &Text,
+    case: &Fresh,
+) -> Result<bool, Fail> {
+    let taken = kept.take(alloc, key, class, Moment(u64::from(case.5)))?;
+    Ok(is_wanted(&taken, case))
+}
+
+/// Whether a peek and a take give what a case says of an answer that is put.
+fn kept_gives(
+    alloc: Global,
+    kept: &mut Kept,
+    class: &Class,
+    key: &Text,
+    case: &Fresh,
+) -> Result<bool, Fail> {
+    put(alloc, kept, b'k', class, case.3, case.4)?;
+    let peeks = peek_gives(alloc, kept, class, key, case)?;
+    let takes = take_gives(alloc, kept, class, key, case)?;
+    Ok(peeks && takes)
+}
+
 /// Whether a peek and a take give what a case says.
 fn gives(alloc: Global, case: &Fresh) -> Result<bool, Fail> {
-    let (ttl, negative_ttl, grace, yes, date, now, _) = case;
-    let class = class(alloc, *ttl, *negative_ttl, *grace)?;
-    let mut kept = Kept::new(alloc, 2)?;
-    put(alloc, &mut kept, b'k', &class, *yes, *date)?;
     let key = Text::from_slice(alloc, b"k")?;
-    let moment = Moment(u64::from(*now));
-    let peeked = kept.peek(alloc, &key, &class, moment)?;
-    let taken = kept.take(alloc, &key, &class, moment)?;
-    Ok(is_wanted(&peeked, case) && is_wanted(&taken, case))
+    let class = class(alloc, case.0, case.1, case.2)?;
+    let mut kept = Kept::new(alloc, 2)?;
+    kept_gives(alloc, &mut kept, &class, &key, case)
 }
 
 #[test]
@@ -194,26 +237,59 @@ fn use_key(alloc: Global, kept: &mut Kept, class: &Class, how: u8, key: u8) -> R
     }
 }
 
+/// Whether a key is kept.
+fn has_key(alloc: Global, kept: &Kept, class: &Class, key: u8) -> Result<bool, Fail> {
+    let text = Text::from_slice(alloc, &[key])?;
+    let found = kept.peek(alloc, &text, class, Moment(0))?;
+    Ok(found.is_some())
+}
+
 /// Whether exactly these of the keys `a` to `c` are kept.
 fn has_keys(alloc: Global, kept: &Kept, class: &Class, wanted: &[u8]) -> Result<bool, Fail> {
     for key in b"abc" {
-        let text = Text::from_slice(alloc, &[*key])?;
-        let found = kept.peek(alloc, &text, class, Moment(0))?;
-        if found.is_some() != wanted.contains(key) {
+        if has_key(alloc, kept, class, *key)? != wanted.contains(key) {
             return Ok(false);
         }
     }
     Ok(true)
 }
 
+/// Uses keys in turn, and says whether exactly these are kept then.
+fn uses_leave(
+    alloc: Global,
+    kept: &mut Kept,
+    class: &Class,
+    uses: &[(u8, u8)],
+    wanted: &[u8],
+) -> Result<bool, Fail> {
+    for (how, key) in uses {
+        use_key(alloc, kept, class, *how, *key)?;
+    }
+    has_keys(alloc, kept, class, wanted)
+}
+
 /// Whether the uses of a row leave the keys that it says.
 fn leaves(alloc: Global, class: &Class, row: &Order, seed: HashSeed) -> Result<bool, Fail> {
     let (limit, uses, wanted) = row;
     let mut kept = Kept::with_seed(alloc, u32::from(*limit), seed)?;
-    for (how, key) in *uses {
-        use_key(alloc, &mut kept, class, *how, *key)?;
+    uses_leave(alloc, &mut kept, class, uses, wanted)
+}
+
+/// Ends the process where the uses of a row leave other keys, with a seed of the tests and with a drawn one.
+fn check_order(
+    rt: &impl Abort,
+    alloc: Global,
+    class: &Class,
+    state: RandomState,
+) -> Result<(), Fail> {
+    for row in &ORDER {
+        assert!(rt; leaves(alloc, class, row, HashSeed::fixed())?, "{row:?}");
+        assert!(rt;
+            leaves(alloc, class, row, HashSeed::drawn(state))?,
+            "{row:?}, drawn"
+        );
     }
-    has_keys(alloc, &kept, class, wanted)
+    Ok(())
 }
 
 #[test]
@@ -223,14 +299,7 @@ fn the_least_lately_used_goes_first(rt: HostRuntime) -> Result<(), Fail> {
     let Ok(state) = RandomState::new(&rt) else {
         return Err(Fail::new("no random bytes"));
     };
-    for row in &ORDER {
-        assert!(rt; leaves(alloc, &class, row, HashSeed::fixed())?, "{row:?}");
-        assert!(rt;
-            leaves(alloc, &class, row, HashSeed::drawn(state))?,
-            "{row:?}, drawn"
-        );
-    }
-    Ok(())
+    check_order(&rt, alloc, &class, state)
 }
 
 /// Whether the verdict of one `Kept` stands in another of its limit after an exchange, and there alone.
@@ -239,7 +308,12 @@ fn moves(alloc: Global, class: &Class) -> Result<bool, Fail> {
     let mut after = Kept::new(alloc, 2)?;
     put(alloc, &mut before, b'a', class, true, 0)?;
     before.exchange(&mut after);
-    Ok(has_keys(alloc, &before, class, b"")? && has_keys(alloc, &after, class, b"a")?)
+    have_moved(alloc, &before, &after, class)
+}
+
+/// Whether key `a` is kept in the second alone.
+fn have_moved(alloc: Global, before: &Kept, after: &Kept, class: &Class) -> Result<bool, Fail> {
+    Ok(has_keys(alloc, before, class, b"")? && has_keys(alloc, after, class, b"a")?)
 }
 
 #[test]
@@ -250,21 +324,36 @@ fn kept_verdicts_move_to_an_alike_class(rt: HostRuntime) -> Result<(), Fail> {
     Ok(())
 }
 
-#[test]
-fn classes_are_alike_where_all_parts_are(rt: HostRuntime) -> Result<(), Fail> {
-    let alloc = rt.alloc();
-    let one = class(alloc, 60, 60, 0)?;
+/// Whether a class is alike to one with these options.
+fn is_alike(
+    alloc: Global,
+    one: &Class,
+    ttl: u16,
+    negative_ttl: u16,
+    grace: u8,
+) -> Result<bool, Fail> {
+    let other = class(alloc, ttl, negative_ttl, grace)?;
+    Ok(one.alike(&other))
+}
+
+/// Ends the process unless a class is alike to those alone that have its options.
+fn check_alike(rt: &impl Abort, alloc: Global, one: &Class) -> Result<(), Fail> {
     for (ttl, negative_ttl, grace, wanted) in [
         (60, 60, 0, true),
         (61, 60, 0, false),
         (60, 61, 0, false),
         (60, 60, 1, false),
     ] {
-        let other = class(alloc, ttl, negative_ttl, grace)?;
         assert!(rt;
-            one.alike(&other) == wanted,
+            is_alike(alloc, one, ttl, negative_ttl, grace)? == wanted,
             "ttl {ttl}, {negative_ttl}, grace {grace}"
         );
     }
     Ok(())
+}
+
+#[test]
+fn classes_are_alike_where_all_parts_are(rt: HostRuntime) -> Result<(), Fail> {
+    let one = class(rt.alloc(), 60, 60, 0)?;
+    check_alike(&rt, rt.alloc(), &one)
 }

@@ -3,6 +3,7 @@
 use sq_base::{CheckNo, QuestionNo, Text};
 use sq_lookup::{Checks, Lookups};
 use std::alloc::Global;
+use std::process::Abort;
 use std::test::Fail;
 
 /// A letter for a call, a key of one letter, a question, and a check, 0 for none: `o` opens, `j` joins the key,
@@ -114,25 +115,25 @@ fn run_step(alloc: Global, lookups: &mut Lookups, step: &Step) -> Result<bool, F
     Ok(true)
 }
 
+/// Makes a step, and ends the process where it does not go as it should.
+fn check_step(
+    rt: &impl Abort,
+    alloc: Global,
+    lookups: &mut Lookups,
+    step: &Step,
+) -> Result<(), Fail> {
+    let call = step.0 as char;
+    assert!(rt; run_step(alloc, lookups, step)?, "{call}");
+    assert!(rt; is_as(lookups, 1, b'k', &step.4), "question 1 after {call}");
+    assert!(rt; is_as(lookups, 2, b'm', &step.5), "question 2 after {call}");
+    Ok(())
+}
+
 #[test]
 fn exactly_those_wait_that_came_and_did_not_leave(rt: HostRuntime) -> Result<(), Fail> {
     let mut lookups = Lookups::new(rt.alloc());
     for step in &STEPS {
-        assert!(rt;
-            run_step(rt.alloc(), &mut lookups, step)?,
-            "{}",
-            step.0 as char
-        );
-        assert!(rt;
-            is_as(&lookups, 1, b'k', &step.4),
-            "question 1 after {}",
-            step.0 as char
-        );
-        assert!(rt;
-            is_as(&lookups, 2, b'm', &step.5),
-            "question 2 after {}",
-            step.0 as char
-        );
+        check_step(&rt, rt.alloc(), &mut lookups, step)?;
     }
     assert!(rt; lookups.answered(QuestionNo(3)).is_none());
     Ok(())

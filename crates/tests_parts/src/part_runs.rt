@@ -1,6 +1,7 @@
 //! A class with its part, whose questions are counted, and its calls as texts.
 ghost use Rattle.std.specs.Prelude.{◌≡◌};
 
+use crate::fixtures::{said, said_of};
 use sq_base::{
     Cause, CheckNo, Copying, Moment, ProcNo, QuestionNo, Reply, Text, Texts, What, Word,
 };
@@ -54,34 +55,34 @@ fn class(alloc: Global) -> Result<Class, Fail> {
     })
 }
 
-/// What a step says.
-fn told(alloc: Global, said: &StepEffect) -> Result<String, Fail> {
-    match &said.stepped {
-        Stepped::Waits(question) => {
-            let number = question.0;
-            if said.put {
-                Ok(format!(in alloc; "asks {number}")?)
-            } else {
-                Ok(format!(in alloc; "waits {number}")?)
-            }
-        }
-        Stepped::Took(_) => {
-            let Some(answer) = &said.took else {
-                return Err(Fail::new("nothing was taken"));
-            };
-            match &answer.what {
-                What::Fault(_) => Ok(format!(in alloc; "fault")?),
-                _ => {
-                    if said.put {
-                        Ok(format!(in alloc; "took, asks")?)
-                    } else {
-                        Ok(format!(in alloc; "took")?)
-                    }
-                }
-            }
-        }
-        Stepped::Done => Ok(format!(in alloc; "done")?),
+/// What a step says that takes an answer.
+fn taken(what: &What, put: bool) -> &'static str {
+    match what {
+        What::Fault(_) => "fault",
+        _ if put => "took, asks",
+        _ => "took",
     }
+}
+
+/// What a step says.
+fn told(alloc: Global, effect: &StepEffect) -> Result<String, Fail> {
+    match &effect.stepped {
+        Stepped::Waits(question) => {
+            let word = if effect.put { "asks" } else { "waits" };
+            said_of(alloc, word, question.0)
+        }
+        Stepped::Took(_) => match &effect.took {
+            Some(answer) => said(alloc, taken(&answer.what, effect.put)),
+            None => Err(Fail::new("nothing was taken")),
+        },
+        Stepped::Done => said(alloc, "done"),
+    }
+}
+
+fn add_check(alloc: Global, text: &mut String, check: CheckNo) -> Result<(), Fail> {
+    let number = said_of(alloc, "", check.0)?;
+    text.push_str(number.as_str())?;
+    Ok(())
 }
 
 /// A question that ended and the checks that are served.
@@ -89,10 +90,15 @@ fn served(alloc: Global, question: QuestionNo, checks: &Checks) -> Result<String
     let number = question.0;
     let mut text = format!(in alloc; "{number}:")?;
     for check in checks.iter() {
-        let number = check.0;
-        text = format!(in alloc; "{text} {number}")?;
+        add_check(alloc, &mut text, *check)?;
     }
     Ok(text)
+}
+
+fn sent(alloc: Global, question: QuestionNo, proc: ProcNo) -> Result<String, Fail> {
+    let question = question.0;
+    let proc = proc.0;
+    Ok(format!(in alloc; "{question} to {proc}")?)
 }
 
 /// What a reply says.
@@ -144,11 +150,8 @@ impl Run {
     }
 
     pub fn start(&mut self, alloc: Global) -> Result<String, Fail> {
-        if self.part.start() {
-            Ok(format!(in alloc; "start")?)
-        } else {
-            Ok(format!(in alloc; "none")?)
-        }
+        let starts = self.part.start();
+        said(alloc, if starts { "start" } else { "none" })
     }
 
     pub fn started(&mut self, alloc: Global, proc: u32) -> Result<String, Fail> {
@@ -156,17 +159,13 @@ impl Run {
         if self.part.lives(proc) || self.part.started(alloc, proc).is_err() {
             return Err(Fail::new("no start is open"));
         }
-        Ok(format!(in alloc; "ok")?)
+        said(alloc, "ok")
     }
 
     pub fn send(&mut self, alloc: Global) -> Result<String, Fail> {
         match self.part.send() {
-            Some(sending) => {
-                let question = sending.question.0;
-                let proc = sending.proc.0;
-                Ok(format!(in alloc; "{question} to {proc}")?)
-            }
-            None => Ok(format!(in alloc; "none")?),
+            Some(sending) => sent(alloc, sending.question, sending.proc),
+            None => said(alloc, "none"),
         }
     }
 
@@ -174,7 +173,7 @@ impl Run {
     fn lost(&mut self, alloc: Global) -> Result<String, Fail> {
         match self.part.next_lost() {
             Some(lost) => served(alloc, lost.question, &lost.checks),
-            None => Ok(format!(in alloc; "none")?),
+            None => said(alloc, "none"),
         }
     }
 

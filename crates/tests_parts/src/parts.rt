@@ -1,6 +1,7 @@
 //! Steps, joins, a refresh, a failed start and a death between a send and its reply.
 use crate::part_runs::Run;
 use std::alloc::Global;
+use std::process::Abort;
 use std::test::Fail;
 
 /// What happens to a class of at most one process, with one question at a time.
@@ -64,12 +65,17 @@ fn outcome(alloc: Global, run: &mut Run, event: &Event) -> Result<String, Fail> 
     }
 }
 
-#[test]
-fn a_class_goes_by_its_rules(rt: HostRuntime) -> Result<(), Fail> {
-    let mut run = Run::new(rt.alloc())?;
+/// Ends the process where something else comes of an event.
+fn check(rt: &impl Abort, alloc: Global, run: &mut Run) -> Result<(), Fail> {
     for (event, wanted) in &EVENTS {
-        let text = outcome(rt.alloc(), &mut run, event)?;
+        let text = outcome(alloc, run, event)?;
         assert!(rt; text.as_str() == *wanted, "{wanted}, not {text}");
     }
     Ok(())
+}
+
+#[test]
+fn a_class_goes_by_its_rules(rt: HostRuntime) -> Result<(), Fail> {
+    let mut run = Run::new(rt.alloc())?;
+    check(&rt, rt.alloc(), &mut run)
 }

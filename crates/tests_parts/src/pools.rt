@@ -2,467 +2,299 @@
 ghost use Rattle.std.specs.Prelude.{◌≡◌};
 ghost use Rattle.sq_pools.specs.Basins.{has_pool};
 
-use sq_base::{Addr, EpochNo, Listed, Moment, Text};
+use crate::fixtures::{amount, bucket_shown, config_of, count, moment, number, pool_of, said};
+use sq_base::{Addr, EpochNo, Moment};
 use sq_pools::{Pools, Seat};
-use sq_rules::{AclParts, Classes, Config, Limit, Limits, Parts, PoolPart, PoolParts, RuleParts};
+use sq_rules::{Config, Limit, Limits, PoolParts};
 use std::alloc::Global;
 use std::process::Abort;
 use std::sync::Arc;
 use std::test::Fail;
 
-/// `delay_initial_bucket_level`, and the pairs of pool 1, as many as its class says; pool 2 is another like
-/// it. No rule allows anybody, which is for `delay_access` to say: a seat is given in the pool that is named.
-type Stated = (u8, &'static [Option<(u64, u64)>]);
-
-/// The configurations by their places, each with a name below.
-static CONFIGS: [Stated; 12] = [
-    (50, &[Some((100, 1000))]),
-    (50, &[None, Some((100, 1000))]),
-    (50, &[None, Some((1000, 4000)), Some((500, 2000))]),
-    (0, &[Some((100, 1000))]),
-    (100, &[Some((100, 1000))]),
-    (50, &[Some((1000, 300))]),
-    (50, &[None]),
-    (100, &[Some((1000, 1500)), Some((100, 400))]),
-    (33, &[Some((7, 10))]),
-    (100, &[Some((MOST, MOST))]),
-    (100, &[Some((10, 1000)), Some((5, 600)), Some((1, 50))]),
-    (100, &[Some((0, 500))]),
-];
+/// Configurations by their names: `delay_initial_bucket_level`, and the pairs of pool 1, as many as its class says; pool 2 is
+/// another like it. No rule allows anybody, which is for `delay_access` to say: a seat is given in the pool that is named.
+static CONFIGS: &str = "plain 50 100/1000
+by_host 50 none 100/1000
+by_network 50 none 1000/4000 500/2000
+empty 0 100/1000
+full 100 100/1000
+steep 50 1000/300
+unlimited 50 none
+shared 100 1000/1500 100/400
+uneven 33 7/10
+greatest 100 1000000000000000/1000000000000000
+all_three 100 10/1000 5/600 1/50
+never 100 0/500";
 
 /// The greatest number of `delay_parameters`.
 const MOST: u64 = 1_000_000_000_000_000;
 
-const PLAIN: usize = 0;
+/// Runs, each with a line of what is shown, and one with the moment at which pools of epoch 1 are made, their configuration,
+/// and the sum of all grants. Then come moments, calls, and what they come to. A call names an epoch and its configuration; a
+/// pool from 0, and a client by the number of its address, where 10.0.0.1 is 167772161; a seat by its place among those that
+/// were given; how much is wanted; a bucket by its place. `other` is a grant to seat 1 of other pools. A call comes to a
+/// seat's number, an amount, or a bucket's level and what it opened at, gained, lost and granted. Of a line behind `#` nothing
+/// is done.
+static RUNS: &str = "half at first, then a second at a time, and never more than the greatest level
+0 plain 1600
+0 choose 1 plain 0 167838211 => 1
+0 grant 0 300 => 300
+# 200 are left, and one whole second has gone.
+1999 grant 0 1000 => 300
+# 19 seconds more would give 1900.
+20000 grant 0 5000 => 1000
+# 500 + 2000 = 0 + 900 + 1600.
+20000 numbers 0 0 => 0 500 2000 900 1600
+20000 numbers 0 1 => none
 
-const BY_HOST: usize = 1;
+class 3: 10.0.3.7 and 10.0.4.7 have buckets of their own, by network 3 and 4 and by 775 and 1031
+0 by_network 2500
+0 choose 1 by_network 0 167772935 => 1
+# 2000 in the network's, 1000 in the host's.
+0 grant 0 5000 => 1000
+0 grant 0 5000 => 0
+1000 grant 0 5000 => 500
+1000 choose 1 by_network 0 167773191 => 2
+1000 grant 1 5000 => 1000
+# The pair of all clients is no limit: the first bucket is the network's, and there is no third.
+1000 numbers 0 0 => 1500 2000 1000 0 1500
+1000 numbers 0 1 => 0 1000 500 0 1500
+1000 numbers 0 2 => none
+# Opened in second 1, with nothing gained since.
+1000 numbers 1 1 => 0 1000 0 0 1000
+1000 leave 0 => done
 
-const BY_NETWORK: usize = 2;
+class 3: two hosts of one network share its bucket and that of all
+0 all_three 100
+0 choose 1 all_three 0 167772935 => 1
+0 choose 1 all_three 0 167772936 => 2
+0 grant 0 100 => 50
+0 grant 1 100 => 50
+0 numbers 0 0 => 900 1000 0 0 100
+0 numbers 0 1 => 500 600 0 0 100
+0 numbers 0 2 => 0 50 0 0 50
+# 10.1.3.7 has the network and the host number of 10.0.3.7.
+0 choose 1 all_three 0 167838471 => 3
+0 grant 2 1 => 0
 
-const EMPTY: usize = 3;
+class 2: hosts by the last octet alone
+0 by_host 1000
+0 choose 1 by_host 0 167772167 => 1
+0 grant 0 500 => 500
+# 10.9.9.7.
+0 choose 1 by_host 0 168364295 => 2
+0 grant 1 100 => 0
+0 choose 1 by_host 0 167772168 => 3
+0 grant 2 1000 => 500
 
-const FULL: usize = 4;
+class 2: the bucket of all clients runs out before those of the hosts
+0 shared 1600
+0 choose 1 shared 0 167772161 => 1
+0 choose 1 shared 0 167772162 => 2
+0 choose 1 shared 0 167772163 => 3
+0 choose 1 shared 0 167772164 => 4
+0 grant 0 1000 => 400
+0 grant 1 1000 => 400
+0 grant 2 1000 => 400
+# 1500 - 1200 are left for all.
+0 grant 3 1000 => 300
+0 grant 3 1000 => 0
+1000 grant 0 1000 => 100
+1000 numbers 3 0 => 900 1500 1000 0 1600
+1000 numbers 3 1 => 200 400 100 0 300
 
-const STEEP: usize = 5;
+a bucket that opens empty
+0 empty 100
+0 choose 1 empty 0 1 => 1
+0 grant 0 10 => 0
+999 grant 0 10 => 0
+1000 grant 0 1000 => 100
 
-const UNLIMITED: usize = 6;
+a bucket that opens full
+0 full 1000
+0 choose 1 full 0 1 => 1
+0 grant 0 0 => 0
+0 grant 0 5000 => 1000
 
-const SHARED: usize = 7;
+a greatest level below what a second gains
+0 steep 450
+0 choose 1 steep 0 1 => 1
+0 grant 0 1000 => 150
+1000 grant 0 1000 => 300
+# 150 + 1000 = 0 + 700 + 450.
+1000 numbers 0 0 => 0 150 1000 700 450
 
-const UNEVEN: usize = 8;
+no limit: no bucket, and all that is wanted
+0 unlimited 12345
+0 choose 1 unlimited 0 1 => 1
+0 grant 0 12345 => 12345
+0 numbers 0 0 => none
 
-const GREATEST: usize = 9;
+a part of a byte is dropped at the opening: 33 of 100 of 10
+0 uneven 20
+0 choose 1 uneven 0 1 => 1
+0 grant 0 10 => 3
+1000 grant 0 10 => 7
+# 7, then 14, of which 4 are lost.
+3000 grant 0 10 => 10
+3000 numbers 0 0 => 0 3 21 4 20
 
-const ALL_THREE: usize = 10;
+the greatest numbers, after a second and after a year
+0 greatest 3000000000000000
+0 choose 1 greatest 0 1 => 1
+0 grant 0 9223372036854775807 => 1000000000000000
+1000 grant 0 9223372036854775807 => 1000000000000000
+31536000000 grant 0 9223372036854775807 => 1000000000000000
+# 31536000 seconds; three times the greatest number was granted and once it was there at first.
+31536000000 numbers 0 0 => 0 1000000000000000 31536000000000000000000 31535998000000000000000 3000000000000000
 
-const NEVER: usize = 11;
+a bucket that never gains
+0 never 500
+0 choose 1 never 0 1 => 1
+0 grant 0 300 => 300
+9000000 grant 0 300 => 200
+9000000 grant 0 300 => 0
 
-/// A call: an epoch and its configuration; a pool from 0, and a client by the number of its address; a seat by
-/// its place among those that were given; how much is wanted; a bucket by its place.
-#[derive(Clone, Copy, Debug)]
-enum Call {
-    Renew(u32, usize),
-    Choose(u32, usize, u32, u32),
-    ChooseV6(u32, usize, u32, u128),
-    Grant(usize, u64),
-    /// A grant to seat 1 of other pools.
-    GrantOther(u64),
-    Leave(usize),
-    Numbers(usize, u32),
+a moment before the greatest so far counts as that
+0 plain 1100
+5000 choose 1 plain 0 1 => 1
+# 500 and five seconds.
+0 grant 0 5000 => 1000
+1000 grant 0 5000 => 0
+6000 grant 0 5000 => 100
+
+seconds begin with the generation
+500 plain 600
+500 choose 1 plain 0 1 => 1
+1000 grant 0 1000 => 500
+1499 grant 0 1000 => 0
+1500 grant 0 1000 => 100
+
+two seats of one host have its buckets
+0 by_host 600
+0 choose 1 by_host 0 167772161 => 1
+0 choose 1 by_host 0 167772161 => 2
+0 grant 0 300 => 300
+0 grant 1 300 => 200
+0 leave 0 => done
+1000 grant 1 300 => 100
+
+an old generation lives as long as its last seat, and is made anew
+0 plain 2000
+0 choose 1 plain 0 1 => 1
+0 grant 0 1000 => 500
+1000 renew 2 plain => done
+1000 grant 0 1000 => 100
+1000 choose 1 plain 0 2 => 2
+1000 leave 0 => done
+# Another seat has held it.
+2000 grant 1 1000 => 100
+2000 leave 1 => done
+2000 choose 1 plain 0 1 => 3
+2000 grant 2 1000 => 500
+2999 grant 2 1000 => 0
+3000 grant 2 1000 => 100
+# The second generation was made at 1000, and lives without a seat.
+3000 choose 2 plain 0 1 => 4
+3000 grant 3 1000 => 700
+3000 leave 3 => done
+3000 choose 2 plain 0 1 => 5
+3000 grant 4 1000 => 0
+
+no renewal of an epoch that is there or before the newest
+0 plain 500
+1000 renew 2 plain => done
+99000 renew 1 plain => done
+99000 renew 2 full => done
+# Neither changed the moment.
+1000 choose 2 plain 0 1 => 1
+1000 grant 0 1000 => 500
+
+IPv6 clients, pools beside each other, and another limit in one epoch
+0 plain 1450
+0 choose 1 plain 0 v6:42540766411282592856903984951653826561 => 1
+0 choose 1 plain 0 1 => 2
+0 choose 1 plain 1 1 => 3
+0 grant 0 400 => 400
+0 grant 1 400 => 100
+0 grant 2 1000 => 500
+1000 choose 1 steep 0 1 => 4
+1000 grant 3 1000 => 150
+2000 grant 3 1000 => 300
+
+a number that is not in use is granted nothing, nor is one that has left
+0 plain 10
+0 other 10 => 0
+0 choose 1 plain 0 1 => 1
+0 grant 0 10 => 10
+0 leave 0 => done
+0 other 10 => 0
+0 choose 1 plain 0 1 => 2
+0 numbers 1 0 => 490 500 0 0 10
+
+an epoch above the newest is the newest from then on
+0 plain 1100
+1000 choose 3 plain 0 1 => 1
+1000 grant 0 1000 => 500
+1000 leave 0 => done
+# Epoch 1 had no seat: it went, and is made anew.
+2000 choose 1 plain 0 1 => 2
+2000 grant 1 1000 => 500
+2000 choose 3 plain 0 1 => 3
+2000 grant 2 1000 => 100";
+
+/// The level and the pairs of the configuration of a name.
+fn stated(name: &str) -> Result<(&'static str, &'static str), Fail> {
+    for row in CONFIGS.lines() {
+        let (found, stated) = row.split_once(' ').ok_or("no level")?;
+        if found == name {
+            let stated = stated.split_once(' ').ok_or("no pairs")?;
+            return Ok(stated);
+        }
+    }
+    Err(Fail::new("no such configuration"))
 }
 
-/// What a call comes to: a seat's number, an amount, or a bucket's level and what it opened at, gained, lost
-/// and granted.
-#[derive(Clone, Copy, Debug, PartialEq, Eq)]
-enum Came {
-    Done,
-    Number(u64),
-    Granted(u64),
-    Bucket(u64, u128, u128, u128, u128),
-    NoBucket,
+/// The limit of a pair.
+fn limit_of(pair: &str) -> Result<Option<Limit>, Fail> {
+    if pair == "none" {
+        return Ok(None);
+    }
+    let (restore, max) = pair.split_once('/').ok_or("no pair")?;
+    let restore = amount(restore)?;
+    let max = amount(max)?;
+    if restore > MOST || max > MOST {
+        return Err(Fail::new("too great a number"));
+    }
+    Ok(Some(Limit { restore, max }))
 }
 
-use Call::{Choose, ChooseV6, Grant, GrantOther, Leave, Numbers, Renew};
-use Came::{Bucket, Done, Granted, NoBucket, Number};
+/// Adds the limits of pairs; how many they are.
+fn add_limits(limits: &mut Limits, pairs: &str) -> Result<u8, Fail> {
+    let mut class: u8 = 0;
+    for pair in pairs.split(' ') {
+        limits.push(limit_of(pair)?)?;
+        class = class.saturating_add(1);
+    }
+    Ok(class)
+}
 
-/// A moment, a call, and what it comes to.
-type Step = (u64, Call, Came);
-
-/// What is shown; the moment at which pools of epoch 1 are made, and their configuration; the calls; and the sum
-/// of all grants. 10.0.0.1 is 167772161.
-static RUNS: [(&str, u64, usize, &'static [Step], u128); 20] = [
-    (
-        "half at first, then a second at a time, and never more than the greatest level",
-        0,
-        PLAIN,
-        &[
-            (0, Choose(1, PLAIN, 0, 167838211), Number(1)),
-            (0, Grant(0, 300), Granted(300)),
-            // 200 are left, and one whole second has gone.
-            (1999, Grant(0, 1000), Granted(300)),
-            // 19 seconds more would give 1900.
-            (20000, Grant(0, 5000), Granted(1000)),
-            // 500 + 2000 = 0 + 900 + 1600.
-            (20000, Numbers(0, 0), Bucket(0, 500, 2000, 900, 1600)),
-            (20000, Numbers(0, 1), NoBucket),
-        ],
-        1600,
-    ),
-    (
-        "class 3: 10.0.3.7 and 10.0.4.7 have buckets of their own, by network 3 and 4 and by 775 and 1031",
-        0,
-        BY_NETWORK,
-        &[
-            (0, Choose(1, BY_NETWORK, 0, 167772935), Number(1)),
-            // 2000 in the network's, 1000 in the host's.
-            (0, Grant(0, 5000), Granted(1000)),
-            (0, Grant(0, 5000), Granted(0)),
-            (1000, Grant(0, 5000), Granted(500)),
-            (1000, Choose(1, BY_NETWORK, 0, 167773191), Number(2)),
-            (1000, Grant(1, 5000), Granted(1000)),
-            // The pair of all clients is no limit: the first bucket is the network's, and there is no third.
-            (1000, Numbers(0, 0), Bucket(1500, 2000, 1000, 0, 1500)),
-            (1000, Numbers(0, 1), Bucket(0, 1000, 500, 0, 1500)),
-            (1000, Numbers(0, 2), NoBucket),
-            // Opened in second 1, with nothing gained since.
-            (1000, Numbers(1, 1), Bucket(0, 1000, 0, 0, 1000)),
-            (1000, Leave(0), Done),
-        ],
-        2500,
-    ),
-    (
-        "class 3: two hosts of one network share its bucket and that of all",
-        0,
-        ALL_THREE,
-        &[
-            (0, Choose(1, ALL_THREE, 0, 167772935), Number(1)),
-            (0, Choose(1, ALL_THREE, 0, 167772936), Number(2)),
-            (0, Grant(0, 100), Granted(50)),
-            (0, Grant(1, 100), Granted(50)),
-            (0, Numbers(0, 0), Bucket(900, 1000, 0, 0, 100)),
-            (0, Numbers(0, 1), Bucket(500, 600, 0, 0, 100)),
-            (0, Numbers(0, 2), Bucket(0, 50, 0, 0, 50)),
-            // 10.1.3.7 has the network and the host number of 10.0.3.7.
-            (0, Choose(1, ALL_THREE, 0, 167838471), Number(3)),
-            (0, Grant(2, 1), Granted(0)),
-        ],
-        100,
-    ),
-    (
-        "class 2: hosts by the last octet alone",
-        0,
-        BY_HOST,
-        &[
-            (0, Choose(1, BY_HOST, 0, 167772167), Number(1)),
-            (0, Grant(0, 500), Granted(500)),
-            // 10.9.9.7.
-            (0, Choose(1, BY_HOST, 0, 168364295), Number(2)),
-            (0, Grant(1, 100), Granted(0)),
-            (0, Choose(1, BY_HOST, 0, 167772168), Number(3)),
-            (0, Grant(2, 1000), Granted(500)),
-        ],
-        1000,
-    ),
-    (
-        "class 2: the bucket of all clients runs out before those of the hosts",
-        0,
-        SHARED,
-        &[
-            (0, Choose(1, SHARED, 0, 167772161), Number(1)),
-            (0, Choose(1, SHARED, 0, 167772162), Number(2)),
-            (0, Choose(1, SHARED, 0, 167772163), Number(3)),
-            (0, Choose(1, SHARED, 0, 167772164), Number(4)),
-            (0, Grant(0, 1000), Granted(400)),
-            (0, Grant(1, 1000), Granted(400)),
-            (0, Grant(2, 1000), Granted(400)),
-            // 1500 - 1200 are left for all.
-            (0, Grant(3, 1000), Granted(300)),
-            (0, Grant(3, 1000), Granted(0)),
-            (1000, Grant(0, 1000), Granted(100)),
-            (1000, Numbers(3, 0), Bucket(900, 1500, 1000, 0, 1600)),
-            (1000, Numbers(3, 1), Bucket(200, 400, 100, 0, 300)),
-        ],
-        1600,
-    ),
-    (
-        "a bucket that opens empty",
-        0,
-        EMPTY,
-        &[
-            (0, Choose(1, EMPTY, 0, 1), Number(1)),
-            (0, Grant(0, 10), Granted(0)),
-            (999, Grant(0, 10), Granted(0)),
-            (1000, Grant(0, 1000), Granted(100)),
-        ],
-        100,
-    ),
-    (
-        "a bucket that opens full",
-        0,
-        FULL,
-        &[
-            (0, Choose(1, FULL, 0, 1), Number(1)),
-            (0, Grant(0, 0), Granted(0)),
-            (0, Grant(0, 5000), Granted(1000)),
-        ],
-        1000,
-    ),
-    (
-        "a greatest level below what a second gains",
-        0,
-        STEEP,
-        &[
-            (0, Choose(1, STEEP, 0, 1), Number(1)),
-            (0, Grant(0, 1000), Granted(150)),
-            (1000, Grant(0, 1000), Granted(300)),
-            // 150 + 1000 = 0 + 700 + 450.
-            (1000, Numbers(0, 0), Bucket(0, 150, 1000, 700, 450)),
-        ],
-        450,
-    ),
-    (
-        "no limit: no bucket, and all that is wanted",
-        0,
-        UNLIMITED,
-        &[
-            (0, Choose(1, UNLIMITED, 0, 1), Number(1)),
-            (0, Grant(0, 12345), Granted(12345)),
-            (0, Numbers(0, 0), NoBucket),
-        ],
-        12345,
-    ),
-    (
-        "a part of a byte is dropped at the opening: 33 of 100 of 10",
-        0,
-        UNEVEN,
-        &[
-            (0, Choose(1, UNEVEN, 0, 1), Number(1)),
-            (0, Grant(0, 10), Granted(3)),
-            (1000, Grant(0, 10), Granted(7)),
-            // 7, then 14, of which 4 are lost.
-            (3000, Grant(0, 10), Granted(10)),
-            (3000, Numbers(0, 0), Bucket(0, 3, 21, 4, 20)),
-        ],
-        20,
-    ),
-    (
-        "the greatest numbers, after a second and after a year",
-        0,
-        GREATEST,
-        &[
-            (0, Choose(1, GREATEST, 0, 1), Number(1)),
-            (0, Grant(0, 9223372036854775807), Granted(MOST)),
-            (1000, Grant(0, 9223372036854775807), Granted(MOST)),
-            (31536000000, Grant(0, 9223372036854775807), Granted(MOST)),
-            // 31536000 seconds; three times the greatest number was granted and once it was there at first.
-            (
-                31536000000,
-                Numbers(0, 0),
-                Bucket(
-                    0,
-                    1_000_000_000_000_000,
-                    31_536_000_000_000_000_000_000,
-                    31_535_998_000_000_000_000_000,
-                    3_000_000_000_000_000,
-                ),
-            ),
-        ],
-        3_000_000_000_000_000,
-    ),
-    (
-        "a bucket that never gains",
-        0,
-        NEVER,
-        &[
-            (0, Choose(1, NEVER, 0, 1), Number(1)),
-            (0, Grant(0, 300), Granted(300)),
-            (9000000, Grant(0, 300), Granted(200)),
-            (9000000, Grant(0, 300), Granted(0)),
-        ],
-        500,
-    ),
-    (
-        "a moment before the greatest so far counts as that",
-        0,
-        PLAIN,
-        &[
-            (5000, Choose(1, PLAIN, 0, 1), Number(1)),
-            // 500 and five seconds.
-            (0, Grant(0, 5000), Granted(1000)),
-            (1000, Grant(0, 5000), Granted(0)),
-            (6000, Grant(0, 5000), Granted(100)),
-        ],
-        1100,
-    ),
-    (
-        "seconds begin with the generation",
-        500,
-        PLAIN,
-        &[
-            (500, Choose(1, PLAIN, 0, 1), Number(1)),
-            (1000, Grant(0, 1000), Granted(500)),
-            (1499, Grant(0, 1000), Granted(0)),
-            (1500, Grant(0, 1000), Granted(100)),
-        ],
-        600,
-    ),
-    (
-        "two seats of one host have its buckets",
-        0,
-        BY_HOST,
-        &[
-            (0, Choose(1, BY_HOST, 0, 167772161), Number(1)),
-            (0, Choose(1, BY_HOST, 0, 167772161), Number(2)),
-            (0, Grant(0, 300), Granted(300)),
-            (0, Grant(1, 300), Granted(200)),
-            (0, Leave(0), Done),
-            (1000, Grant(1, 300), Granted(100)),
-        ],
-        600,
-    ),
-    (
-        "an old generation lives as long as its last seat, and is made anew",
-        0,
-        PLAIN,
-        &[
-            (0, Choose(1, PLAIN, 0, 1), Number(1)),
-            (0, Grant(0, 1000), Granted(500)),
-            (1000, Renew(2, PLAIN), Done),
-            (1000, Grant(0, 1000), Granted(100)),
-            (1000, Choose(1, PLAIN, 0, 2), Number(2)),
-            (1000, Leave(0), Done),
-            // Another seat has held it.
-            (2000, Grant(1, 1000), Granted(100)),
-            (2000, Leave(1), Done),
-            (2000, Choose(1, PLAIN, 0, 1), Number(3)),
-            (2000, Grant(2, 1000), Granted(500)),
-            (2999, Grant(2, 1000), Granted(0)),
-            (3000, Grant(2, 1000), Granted(100)),
-            // The second generation was made at 1000, and lives without a seat.
-            (3000, Choose(2, PLAIN, 0, 1), Number(4)),
-            (3000, Grant(3, 1000), Granted(700)),
-            (3000, Leave(3), Done),
-            (3000, Choose(2, PLAIN, 0, 1), Number(5)),
-            (3000, Grant(4, 1000), Granted(0)),
-        ],
-        2000,
-    ),
-    (
-        "no renewal of an epoch that is there or before the newest",
-        0,
-        PLAIN,
-        &[
-            (1000, Renew(2, PLAIN), Done),
-            (99000, Renew(1, PLAIN), Done),
-            (99000, Renew(2, FULL), Done),
-            // Neither changed the moment.
-            (1000, Choose(2, PLAIN, 0, 1), Number(1)),
-            (1000, Grant(0, 1000), Granted(500)),
-        ],
-        500,
-    ),
-    (
-        "IPv6 clients, pools beside each other, and another limit in one epoch",
-        0,
-        PLAIN,
-        &[
-            (
-                0,
-                ChooseV6(1, PLAIN, 0, 42540766411282592856903984951653826561),
-                Number(1),
-            ),
-            (0, Choose(1, PLAIN, 0, 1), Number(2)),
-            (0, Choose(1, PLAIN, 1, 1), Number(3)),
-            (0, Grant(0, 400), Granted(400)),
-            (0, Grant(1, 400), Granted(100)),
-            (0, Grant(2, 1000), Granted(500)),
-            (1000, Choose(1, STEEP, 0, 1), Number(4)),
-            (1000, Grant(3, 1000), Granted(150)),
-            (2000, Grant(3, 1000), Granted(300)),
-        ],
-        1450,
-    ),
-    (
-        "a number that is not in use is granted nothing, nor is one that has left",
-        0,
-        PLAIN,
-        &[
-            (0, GrantOther(10), Granted(0)),
-            (0, Choose(1, PLAIN, 0, 1), Number(1)),
-            (0, Grant(0, 10), Granted(10)),
-            (0, Leave(0), Done),
-            (0, GrantOther(10), Granted(0)),
-            (0, Choose(1, PLAIN, 0, 1), Number(2)),
-            (0, Numbers(1, 0), Bucket(490, 500, 0, 0, 10)),
-        ],
-        10,
-    ),
-    (
-        "an epoch above the newest is the newest from then on",
-        0,
-        PLAIN,
-        &[
-            (1000, Choose(3, PLAIN, 0, 1), Number(1)),
-            (1000, Grant(0, 1000), Granted(500)),
-            (1000, Leave(0), Done),
-            // Epoch 1 had no seat: it went, and is made anew.
-            (2000, Choose(1, PLAIN, 0, 1), Number(2)),
-            (2000, Grant(1, 1000), Granted(500)),
-            (2000, Choose(3, PLAIN, 0, 1), Number(3)),
-            (2000, Grant(2, 1000), Granted(100)),
-        ],
-        1100,
-    ),
-];
-
-/// A pool with these pairs.
-fn pool(alloc: Global, pairs: &[Option<(u64, u64)>]) -> Result<PoolPart, Fail> {
+/// Adds a pool with these pairs.
+fn add_pool(alloc: Global, pools: &mut PoolParts, pairs: &str) -> Result<(), Fail> {
     let mut limits = Limits::new(alloc);
-    for pair in pairs {
-        let limit = match *pair {
-            Some((restore, max)) if restore <= MOST && max <= MOST => Some(Limit { restore, max }),
-            _ => None,
-        };
-        limits.push(limit)?;
-    }
-    Ok(PoolPart {
-        class: u8::try_from(pairs.len()).unwrap_or(0),
-        pairs: limits,
-        lists: RuleParts::new(alloc),
-    })
+    let class = add_limits(&mut limits, pairs)?;
+    pools.push(pool_of(alloc, class, limits))?;
+    Ok(())
 }
 
-/// The configuration of a place.
-fn config(alloc: Global, place: usize) -> Result<Arc<Config>, Fail> {
-    let Some((initial, pairs)) = CONFIGS.get(place) else {
-        return Err(Fail::new("no such configuration"));
-    };
+/// The configuration of a name.
+fn config(alloc: Global, name: &str) -> Result<Arc<Config>, Fail> {
+    let (level, pairs) = stated(name)?;
+    let level: u8 = level.parse()?;
     let mut pools = PoolParts::new(alloc);
-    pools.push(pool(alloc, pairs)?)?;
-    pools.push(pool(alloc, pairs)?)?;
-    let parts = Parts {
-        source: Text::new(alloc),
-        dst_lookup: false,
-        classes: Classes::new(alloc),
-        acls: AclParts::new(alloc),
-        rules: RuleParts::new(alloc),
-        pools,
-        initial: (*initial).min(100),
-        port: 3128,
-        rewriter: None,
-        headers: Listed::new(alloc),
-        notices: Listed::new(alloc),
-    };
-    if parts.pools.len() > 64 {
-        return Err(Fail::new("too many pools"));
-    }
-    let config = Config::build(alloc, parts)?;
-    Ok(Arc::new(alloc, config)?)
-}
-
-/// A moment of so many milliseconds.
-fn moment(milliseconds: u64) -> Moment {
-    Moment(milliseconds.min(9223372036854775807))
+    add_pool(alloc, &mut pools, pairs)?;
+    add_pool(alloc, &mut pools, pairs)?;
+    config_of(alloc, pools, level)
 }
 
 /// Whether a pool is there, takes the client, and has buckets by addresses.
@@ -475,124 +307,205 @@ fn takes(config: &Config, pool: u32, addr: Addr) -> bool
     }
 }
 
-/// A seat for a client of this address.
-fn choose(
+/// The address of a client by its number, which stands behind `v6:` for IPv6.
+fn addr_of(word: &str) -> Result<Addr, Fail> {
+    match word.strip_prefix("v6:") {
+        Some(word) => {
+            let number: u128 = word.parse()?;
+            Ok(Addr { v6: true, number })
+        }
+        None => {
+            let number: u32 = word.parse()?;
+            Ok(Addr {
+                v6: false,
+                number: u128::from(number),
+            })
+        }
+    }
+}
+
+/// A seat for a client.
+fn seat(
     alloc: Global,
     pools: &mut Pools,
-    epoch: u32,
-    place: usize,
+    epoch: EpochNo,
+    name: &str,
     pool: u32,
     addr: Addr,
     now: Moment,
 ) -> Result<Seat, Fail> {
-    let config = config(alloc, place)?;
+    let config = config(alloc, name)?;
     if !takes(&config, pool, addr) {
         return Err(Fail::new("no such pool"));
     }
-    Ok(pools.choose(alloc, EpochNo(u64::from(epoch)), &config, pool, addr, now)?)
+    Ok(pools.choose(alloc, epoch, &config, pool, addr, now)?)
+}
+
+/// The number of a seat for a client, which is kept.
+fn choose(
+    alloc: Global,
+    pools: &mut Pools,
+    seats: &mut Vec<Option<Seat>>,
+    now: Moment,
+    words: &str,
+) -> Result<String, Fail> {
+    let (epoch, words) = words.split_once(' ').ok_or("no configuration")?;
+    let (name, words) = words.split_once(' ').ok_or("no pool")?;
+    let (pool, addr) = words.split_once(' ').ok_or("no client")?;
+    let epoch = EpochNo(number(epoch)?);
+    let pool = number(pool)? as u32;
+    let seat = seat(alloc, pools, epoch, name, pool, addr_of(addr)?, now)?;
+    let number = seat.number().0;
+    seats.push(Some(seat))?;
+    count(alloc, number)
 }
 
 /// The seat at a place.
-fn seat_at(seats: &[Option<Seat>], place: usize) -> Result<&Seat, Fail> {
-    match seats.get(place) {
+fn seat_at<'a>(seats: &'a [Option<Seat>], place: &str) -> Result<&'a Seat, Fail> {
+    match seats.get(number(place)? as usize) {
         Some(Some(seat)) => Ok(seat),
         _ => Err(Fail::new("no such seat")),
     }
 }
 
-/// Makes a call.
-fn run_call(
+fn renew(alloc: Global, pools: &mut Pools, now: Moment, words: &str) -> Result<String, Fail> {
+    let (epoch, name) = words.split_once(' ').ok_or("no configuration")?;
+    let epoch = EpochNo(number(epoch)?);
+    let config = config(alloc, name)?;
+    pools.renew(alloc, epoch, &config, now)?;
+    said(alloc, "done")
+}
+
+fn grant(
+    alloc: Global,
+    pools: &mut Pools,
+    seats: &[Option<Seat>],
+    now: Moment,
+    words: &str,
+) -> Result<String, Fail> {
+    let (place, wanted) = words.split_once(' ').ok_or("no amount")?;
+    let granted = pools.grant(seat_at(seats, place)?, amount(wanted)?, now);
+    count(alloc, granted)
+}
+
+/// Gives up the seat at a place.
+fn leave(
+    alloc: Global,
+    pools: &mut Pools,
+    seats: &mut Vec<Option<Seat>>,
+    place: &str,
+) -> Result<String, Fail> {
+    let Some(slot) = seats.get_mut(number(place)? as usize) else {
+        return Err(Fail::new("no such seat"));
+    };
+    if let Some(seat) = slot.take() {
+        pools.leave(seat);
+    }
+    said(alloc, "done")
+}
+
+fn numbers(
+    alloc: Global,
+    pools: &Pools,
+    seats: &[Option<Seat>],
+    words: &str,
+) -> Result<String, Fail> {
+    let (place, i) = words.split_once(' ').ok_or("no bucket")?;
+    let i = number(i)? as u32;
+    bucket_shown(alloc, pools.bucket(seat_at(seats, place)?, i))
+}
+
+/// What a call comes to.
+fn answer(
     alloc: Global,
     pools: &mut Pools,
     seats: &mut Vec<Option<Seat>>,
     other: &Seat,
     now: Moment,
-    call: Call,
-) -> Result<Came, Fail> {
-    Ok(match call {
-        Renew(epoch, place) => {
-            let config = config(alloc, place)?;
-            pools.renew(alloc, EpochNo(u64::from(epoch)), &config, now)?;
-            Done
-        }
-        Choose(epoch, place, pool, number) => {
-            let addr = Addr {
-                v6: false,
-                number: u128::from(number),
-            };
-            let seat = choose(alloc, pools, epoch, place, pool, addr, now)?;
-            let number = seat.number().0;
-            seats.push(Some(seat))?;
-            Number(number)
-        }
-        ChooseV6(epoch, place, pool, number) => {
-            let addr = Addr { v6: true, number };
-            let seat = choose(alloc, pools, epoch, place, pool, addr, now)?;
-            let number = seat.number().0;
-            seats.push(Some(seat))?;
-            Number(number)
-        }
-        Grant(place, wanted) => {
-            Granted(pools.grant(seat_at(seats.as_slice(), place)?, wanted, now))
-        }
-        GrantOther(wanted) => Granted(pools.grant(other, wanted, now)),
-        Leave(place) => {
-            let Some(slot) = seats.get_mut(place) else {
-                return Err(Fail::new("no such seat"));
-            };
-            if let Some(seat) = slot.take() {
-                pools.leave(seat);
-            }
-            Done
-        }
-        Numbers(place, i) => match pools.bucket(seat_at(seats.as_slice(), place)?, i) {
-            Some(b) => Bucket(b.level, b.opened, b.restored, b.spilled, b.granted),
-            None => NoBucket,
-        },
-    })
+    call: &str,
+) -> Result<String, Fail> {
+    let (name, words) = call.split_once(' ').ok_or("no words")?;
+    match name {
+        "renew" => renew(alloc, pools, now, words),
+        "choose" => choose(alloc, pools, seats, now, words),
+        "grant" => grant(alloc, pools, seats.as_slice(), now, words),
+        "other" => count(alloc, pools.grant(other, amount(words)?, now)),
+        "leave" => leave(alloc, pools, seats, words),
+        "numbers" => numbers(alloc, pools, seats.as_slice(), words),
+        _ => Err(Fail::new("no call")),
+    }
 }
 
 /// Seat 1 of other pools.
 fn other_seat(alloc: Global) -> Result<Seat, Fail> {
-    let plain = config(alloc, PLAIN)?;
-    let mut others = Pools::new(alloc, EpochNo(1), &plain, Moment(0))?;
     let addr = Addr {
         v6: false,
         number: 1,
     };
-    choose(alloc, &mut others, 1, PLAIN, 0, addr, Moment(0))
+    let mut others = pools_of(alloc, Moment(0), "plain")?;
+    seat(alloc, &mut others, EpochNo(1), "plain", 0, addr, Moment(0))
 }
 
-/// The pools of epoch 1, made at this moment with the configuration of a place.
-fn pools_of(alloc: Global, made: u64, place: usize) -> Result<Pools, Fail> {
-    let config = config(alloc, place)?;
-    Ok(Pools::new(alloc, EpochNo(1), &config, moment(made))?)
+/// The pools of epoch 1, made at this moment with the configuration of a name.
+fn pools_of(alloc: Global, made: Moment, name: &str) -> Result<Pools, Fail> {
+    let config = config(alloc, name)?;
+    Ok(Pools::new(alloc, EpochNo(1), &config, made)?)
 }
 
 /// Makes the calls in turn, and ends the process where one comes to something else.
+fn check_calls(
+    rt: &impl Abort,
+    alloc: Global,
+    pools: &mut Pools,
+    seats: &mut Vec<Option<Seat>>,
+    other: &Seat,
+    why: &str,
+    rows: &str,
+) -> Result<(), Fail> {
+    for row in rows.lines() {
+        if row.starts_with('#') {
+            continue;
+        }
+        let (call, wanted) = row.split_once(" => ").ok_or("no outcome")?;
+        let (now, call) = call.split_once(' ').ok_or("no call")?;
+        let came = answer(alloc, pools, seats, other, moment(now)?, call)?;
+        assert!(rt; came.as_str() == wanted, "{why}: {row}");
+    }
+    Ok(())
+}
+
+/// Makes the calls of a run over pools, and ends the process where all grants have another sum.
 fn check(
     rt: &impl Abort,
     alloc: Global,
     pools: &mut Pools,
     other: &Seat,
     why: &str,
-    steps: &[Step],
+    sum: u128,
+    rows: &str,
 ) -> Result<(), Fail> {
     let mut seats = Vec::new(alloc);
-    for (now, call, came) in steps {
-        let found = run_call(alloc, pools, &mut seats, other, moment(*now), *call)?;
-        assert!(rt; found == *came, "{why}: {now} {call:?}");
-    }
+    check_calls(rt, alloc, pools, &mut seats, other, why, rows)?;
+    assert!(rt; pools.granted() == sum, "{why}");
     Ok(())
+}
+
+/// Makes a run.
+fn check_run(rt: &impl Abort, alloc: Global, other: &Seat, run: &str) -> Result<(), Fail> {
+    let (why, run) = run.split_once('\n').ok_or("no pools")?;
+    let (made, rows) = run.split_once('\n').ok_or("no calls")?;
+    let (now, made) = made.split_once(' ').ok_or("no configuration")?;
+    let (name, sum) = made.split_once(' ').ok_or("no sum")?;
+    let sum: u128 = sum.parse()?;
+    let mut pools = pools_of(alloc, moment(now)?, name)?;
+    check(rt, alloc, &mut pools, other, why, sum, rows)
 }
 
 #[test]
 fn seats_are_granted_what_their_buckets_hold(rt: HostRuntime) -> Result<(), Fail> {
     let other = other_seat(rt.alloc())?;
-    for (why, made, place, steps, granted) in &RUNS {
-        let mut pools = pools_of(rt.alloc(), *made, *place)?;
-        check(&rt, rt.alloc(), &mut pools, &other, why, steps)?;
-        assert!(rt; pools.granted() == *granted, "{why}");
+    for run in RUNS.split("\n\n") {
+        check_run(&rt, rt.alloc(), &other, run)?;
     }
     Ok(())
 }

@@ -1,8 +1,7 @@
 //! What replies of a redirector make of requests, and all calls of a rewriter in a row.
-ghost use Rattle.std.specs.Prelude.{◌<◌, IfOk};
 
-use crate::fixtures::class;
-use sq_base::{Addr, Field, Fields, ProcNo, QuestionNo, Request, Text, number_of};
+use crate::fixtures::{class, count, number, said, said_of};
+use sq_base::{Addr, Field, Fields, ProcNo, QuestionNo, Request, Text};
 use sq_reply::read_reply;
 use sq_request::make_request;
 use sq_rewrite::{Got, RewriteAct, RewriteFault, Rewriter, Rewriting, rewriting_of};
@@ -165,36 +164,47 @@ fn field(alloc: Global) -> Result<Field, Fail> {
     Ok(Field { name, value })
 }
 
-fn request(alloc: Global, method: &str, target: &str) -> Result<Request, Fail> {
+fn fields(alloc: Global) -> Result<Fields, Fail> {
     let mut fields = Vec::new(alloc);
     fields.push(field(alloc)?)?;
-    let fields = Fields::from_vec(fields);
+    Ok(Fields::from_vec(fields))
+}
+
+fn request(alloc: Global, method: &str, target: &str) -> Result<Request, Fail> {
+    let fields = fields(alloc)?;
     Ok(make_request(alloc, method.as_bytes(), target.as_bytes(), 0, fields)?)
+}
+
+fn add_field(text: &mut String, field: &Field) -> Result<(), Fail> {
+    text.push_str(str::from_utf8(field.name.as_bytes())?)?;
+    text.push(':')?;
+    text.push_str(str::from_utf8(field.value.as_bytes())?)?;
+    Ok(())
 }
 
 /// The fields of a request.
 fn fields_shown(alloc: Global, request: &Request) -> Result<String, Fail> {
     let mut text = String::new(alloc);
     for field in request.fields.as_slice() {
-        text.push_str(str::from_utf8(field.name.as_bytes())?)?;
-        text.push(':')?;
-        text.push_str(str::from_utf8(field.value.as_bytes())?)?;
+        add_field(&mut text, field)?;
     }
     Ok(text)
+}
+
+fn request_shown(alloc: Global, r: &Request) -> Result<String, Fail> {
+    let fields = fields_shown(alloc, r)?;
+    Ok(format!(in alloc;
+        "new {} {} to {} {} {} {} {fields}",
+        r.method, r.target, r.host, r.port, r.path, r.minor
+    )?)
 }
 
 /// What a request came to.
 fn shown(alloc: Global, rewriting: &Rewriting) -> Result<String, Fail> {
     match rewriting {
-        Rewriting::Same(None) => Ok(format!(in alloc; "same")?),
+        Rewriting::Same(None) => said(alloc, "same"),
         Rewriting::Same(Some(cause)) => Ok(format!(in alloc; "same {cause:?}")?),
-        Rewriting::New(r) => {
-            let fields = fields_shown(alloc, r)?;
-            Ok(format!(in alloc;
-                "new {} {} to {} {} {} {} {fields}",
-                r.method, r.target, r.host, r.port, r.path, r.minor
-            )?)
-        }
+        Rewriting::New(r) => request_shown(alloc, r),
         Rewriting::Redirect(status, url) => Ok(format!(in alloc; "redirect {status} {url}")?),
     }
 }
@@ -206,6 +216,12 @@ fn made(alloc: Global, request: &Request, line: &[u8]) -> Result<String, Fail> {
     shown(alloc, &rewriting)
 }
 
+/// What a reply makes of the request of this method and target.
+fn made_of(alloc: Global, method: &str, target: &str, line: &[u8]) -> Result<String, Fail> {
+    let request = request(alloc, method, target)?;
+    made(alloc, &request, line)
+}
+
 #[test]
 fn replies_make_redirects_and_requests(rt: HostRuntime) -> Result<(), Fail> {
     let alloc = rt.alloc();
@@ -213,18 +229,15 @@ fn replies_make_redirects_and_requests(rt: HostRuntime) -> Result<(), Fail> {
         let (given, wanted) = row.split_once(" => ").ok_or("no outcome")?;
         let (asked, line) = given.split_once(" > ").ok_or("no reply")?;
         let (method, target) = asked.split_once(' ').ok_or("no target")?;
-        let request = request(alloc, method, target)?;
-        let made = made(alloc, &request, line.as_bytes())?;
+        let made = made_of(alloc, method, target, line.as_bytes())?;
         assert!(rt; made.as_str() == wanted, "{row}");
     }
     Ok(())
 }
 
-// What a request becomes by a reply with a `url` of this byte between an `a` and a `b`: percent-encoded, or as it is between
-// quotes.
-fn made_with(alloc: Global, request: &Request, byte: u8, is_quoted: bool) -> Result<String, Fail> {
+// Adds this byte between an `a` and a `b`: percent-encoded, or as it is between quotes.
+fn add_url(line: &mut Vec<u8>, byte: u8, is_quoted: bool) -> Result<(), Fail> {
     let digits = b"0123456789ABCDEF";
-    let mut line = Vec::from_slice(alloc, b"OK url=")?;
     if is_quoted {
         line.extend_from_slice(&[b'"', b'a', byte, b'b', b'"'])?;
     } else {
@@ -232,7 +245,34 @@ fn made_with(alloc: Global, request: &Request, byte: u8, is_quoted: bool) -> Res
         let low = digits[(byte % 16) as usize];
         line.extend_from_slice(&[b'a', b'%', high, low, b'b'])?;
     }
+    Ok(())
+}
+
+// What a request becomes by a reply with a `url` of this byte between an `a` and a `b`.
+fn made_with(alloc: Global, request: &Request, byte: u8, is_quoted: bool) -> Result<String, Fail> {
+    let mut line = Vec::from_slice(alloc, b"OK url=")?;
+    add_url(&mut line, byte, is_quoted)?;
     made(alloc, request, line.as_slice())
+}
+
+// Ends the process unless replies with a `url` of this byte make of a request what they should.
+fn check_byte(rt: &impl Abort, alloc: Global, request: &Request, byte: u8) -> Result<(), Fail> {
+    let is_visible = 0x21 <= byte && byte <= 0x7E;
+    let wanted = if is_visible { "redirect 302 a" } else { "same" };
+    let came = made_with(alloc, request, byte, false)?;
+    assert!(rt; came.starts_with(wanted), "{byte}: {came}");
+    // These three stand in no line.
+    let is_bare = byte != 0 && byte != b'\n' && byte != b'\r';
+    if is_bare && !is_visible {
+        check_quoted(rt, alloc, request, byte)?;
+    }
+    Ok(())
+}
+
+fn check_quoted(rt: &impl Abort, alloc: Global, request: &Request, byte: u8) -> Result<(), Fail> {
+    let came = made_with(alloc, request, byte, true)?;
+    assert!(rt; came.as_str() == "same", "{byte} in quotes: {came}");
+    Ok(())
 }
 
 #[test]
@@ -240,16 +280,7 @@ fn a_url_with_a_forbidden_byte_is_no_redirect(rt: HostRuntime) -> Result<(), Fai
     let alloc = rt.alloc();
     let request = request(alloc, "GET", "http://a/")?;
     for byte in 0..=255u8 {
-        let is_visible = 0x21 <= byte && byte <= 0x7E;
-        let wanted = if is_visible { "redirect 302 a" } else { "same" };
-        let came = made_with(alloc, &request, byte, false)?;
-        assert!(rt; came.starts_with(wanted), "{byte}: {came}");
-        // These three stand in no line.
-        let is_bare = byte != 0 && byte != b'\n' && byte != b'\r';
-        if is_bare && !is_visible {
-            let came = made_with(alloc, &request, byte, true)?;
-            assert!(rt; came.as_str() == "same", "{byte} in quotes: {came}");
-        }
+        check_byte(&rt, alloc, &request, byte)?;
     }
     Ok(())
 }
@@ -258,9 +289,23 @@ fn refused(alloc: Global, fault: RewriteFault) -> Result<String, Fail> {
     Ok(format!(in alloc; "{fault}")?)
 }
 
+fn sent(
+    alloc: Global,
+    proc: u64,
+    question: u64,
+    channel: Option<u32>,
+    text: &Text,
+) -> Result<String, Fail> {
+    let text = str::from_utf8(text.as_bytes())?;
+    match channel {
+        None => Ok(format!(in alloc; "send {proc} {question} {text}")?),
+        Some(n) => Ok(format!(in alloc; "send {proc} {question} on {n} {text}")?),
+    }
+}
+
 fn act(alloc: Global, rewriter: &mut Rewriter) -> Result<String, Fail> {
     match rewriter.act() {
-        Some(RewriteAct::Stop(ProcNo(proc))) => Ok(format!(in alloc; "stop {proc}")?),
+        Some(RewriteAct::Stop(ProcNo(proc))) => said_of(alloc, "stop", proc),
         Some(
             RewriteAct::Send {
                 proc: ProcNo(proc),
@@ -268,46 +313,31 @@ fn act(alloc: Global, rewriter: &mut Rewriter) -> Result<String, Fail> {
                 channel,
                 text,
             },
-        ) => {
-            let text = str::from_utf8(text.as_bytes())?;
-            match channel {
-                None => Ok(format!(in alloc; "send {proc} {question} {text}")?),
-                Some(n) => Ok(format!(in alloc; "send {proc} {question} on {n} {text}")?),
-            }
-        }
-        Some(RewriteAct::Start) => Ok(format!(in alloc; "start")?),
-        None => Ok(format!(in alloc; "none")?),
+        ) => sent(alloc, proc, question, channel, &text),
+        Some(RewriteAct::Start) => said(alloc, "start"),
+        None => said(alloc, "none"),
     }
 }
 
 fn ask(alloc: Global, rewriter: &mut Rewriter, target: &str) -> Result<String, Fail> {
     let request = request(alloc, "GET", target)?;
     match rewriter.ask(alloc, &request, client()) {
-        Ok(QuestionNo(question)) => Ok(format!(in alloc; "{question}")?),
+        Ok(QuestionNo(question)) => count(alloc, question),
         Err(fault) => refused(alloc, fault),
     }
 }
 
 fn started(alloc: Global, rewriter: &mut Rewriter) -> Result<String, Fail> {
     match rewriter.started(alloc) {
-        Ok(ProcNo(proc)) => Ok(format!(in alloc; "{proc}")?),
+        Ok(ProcNo(proc)) => count(alloc, proc),
         Err(fault) => refused(alloc, fault),
     }
 }
 
 fn done(alloc: Global, res: Result<(), RewriteFault>) -> Result<String, Fail> {
     match res {
-        Ok(()) => Ok(format!(in alloc; "ok")?),
+        Ok(()) => said(alloc, "ok"),
         Err(fault) => refused(alloc, fault),
-    }
-}
-
-fn number(word: &str) -> Result<u64, Fail>
-    ensures { IfOk result (λ n. n < 100) }
-{
-    match number_of(word.as_bytes(), 100) {
-        Some(number) => Ok(number),
-        None => Err(Fail::new("no number")),
     }
 }
 
@@ -315,9 +345,9 @@ fn line(alloc: Global, rewriter: &mut Rewriter, words: &str) -> Result<String, F
     let (proc, line) = words.split_once(' ').ok_or("no line")?;
     let proc = ProcNo(number(proc)?);
     match rewriter.line(alloc, proc, line.as_bytes()) {
-        Ok(Got::Reply(QuestionNo(question), _)) => Ok(format!(in alloc; "reply {question}")?),
-        Ok(Got::Bad) => Ok(format!(in alloc; "bad")?),
-        Ok(Got::Stray) => Ok(format!(in alloc; "stray")?),
+        Ok(Got::Reply(QuestionNo(question), _)) => said_of(alloc, "reply", question),
+        Ok(Got::Bad) => said(alloc, "bad"),
+        Ok(Got::Stray) => said(alloc, "stray"),
         Err(fault) => refused(alloc, fault),
     }
 }
@@ -325,7 +355,7 @@ fn line(alloc: Global, rewriter: &mut Rewriter, words: &str) -> Result<String, F
 fn take(alloc: Global, rewriter: &mut Rewriter, question: QuestionNo) -> Result<String, Fail> {
     match rewriter.take(question) {
         Ok(Some(rewriting)) => shown(alloc, &rewriting),
-        Ok(None) => Ok(format!(in alloc; "waits")?),
+        Ok(None) => said(alloc, "waits"),
         Err(fault) => refused(alloc, fault),
     }
 }

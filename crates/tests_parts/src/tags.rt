@@ -2,123 +2,73 @@
 ghost use Rattle.std.specs.Prelude.{◌≡◌};
 ghost use Rattle.sq_pools.specs.Basins.{has_tag_pool};
 
-use sq_base::{EpochNo, Listed, Moment, Text};
+use crate::fixtures::{amount, bucket_shown, config_of, count, moment, number, pool_of, said};
+use sq_base::{EpochNo, Moment, Text};
 use sq_pools::{TagPools, TagSeat};
-use sq_rules::{AclParts, Classes, Config, Limit, Limits, Parts, PoolPart, PoolParts, RuleParts};
+use sq_rules::{Config, Limit, Limits, PoolParts};
 use std::alloc::Global;
 use std::process::Abort;
 use std::sync::Arc;
 use std::test::Fail;
 
-/// A call: an epoch, a pool from 0, and a tag; a seat by its place among those that were given; how much is wanted; a
-/// bucket by its place.
-#[derive(Clone, Copy, Debug)]
-enum Call {
-    Renew(u32),
-    Choose(u32, u32, &'static [u8]),
-    Pass,
-    Grant(usize, u64),
-    Leave(usize),
-    Numbers(usize, u32),
-}
-
-/// What a call comes to: a seat's number, an amount, or a bucket's level and what it opened at, gained, lost
-/// and granted.
-#[derive(Clone, Copy, Debug, PartialEq, Eq)]
-enum Came {
-    Done,
-    Number(u64),
-    Granted(u64),
-    Bucket(u64, u128, u128, u128, u128),
-    NoBucket,
-}
-
-use Call::{Choose, Grant, Leave, Numbers, Pass, Renew};
-use Came::{Bucket, Done, Granted, NoBucket, Number};
-
-/// Moments, calls, and what they come to. Pool 0 has 100 a second and at most 1000, pool 1 no limit; a bucket opens half
-/// full.
-static STEPS: [(u64, Call, Came); 27] = [
-    (0, Choose(1, 0, b"gold"), Number(1)),
-    (0, Grant(0, 300), Granted(300)),
-    // The same tag has the same bucket.
-    (0, Choose(1, 0, b"gold"), Number(2)),
-    (0, Grant(1, 300), Granted(200)),
-    // Another has its own, be it by the case of a letter.
-    (0, Choose(1, 0, b"iron"), Number(3)),
-    (0, Grant(2, 300), Granted(300)),
-    (0, Choose(1, 0, b"Gold"), Number(4)),
-    (0, Grant(3, 1000), Granted(500)),
-    // No octets are a tag.
-    (0, Choose(1, 0, b""), Number(5)),
-    (0, Grant(4, 600), Granted(500)),
-    (1000, Grant(0, 1000), Granted(100)),
-    // 500 + 100 = 0 + 0 + 600.
-    (1000, Numbers(0, 0), Bucket(0, 500, 100, 0, 600)),
-    (1000, Numbers(0, 1), NoBucket),
-    // Number 6 goes to a seat of other pools.
-    (1000, Pass, Done),
-    (1000, Choose(1, 0, b"gold"), Number(7)),
-    (1000, Choose(1, 1, b"gold"), Number(8)),
-    (1000, Grant(6, 12345), Granted(12345)),
-    (1000, Numbers(6, 0), NoBucket),
-    (1000, Leave(0), Done),
-    (2000, Grant(1, 1000), Granted(100)),
-    // Another epoch has buckets of its own.
-    (2000, Renew(2), Done),
-    (2000, Choose(2, 0, b"gold"), Number(9)),
-    (2000, Grant(7, 1000), Granted(500)),
-    (2000, Grant(1, 1000), Granted(0)),
-    (3000, Grant(1, 50), Granted(50)),
-    (3000, Grant(7, 1000), Granted(100)),
-    (3000, Numbers(7, 0), Bucket(0, 500, 100, 0, 600)),
-];
+/// Moments, calls, and what they come to. A call names an epoch, a pool from 0, and a tag; a seat by its place among those
+/// that were given; how much is wanted; a bucket by its place. It comes to a seat's number, an amount, or a bucket's level and
+/// what it opened at, gained, lost and granted. Pool 0 has 100 a second and at most 1000, pool 1 no limit; a bucket opens half
+/// full. Of a line behind `#` nothing is done.
+static STEPS: &str = "0 choose 1 0 gold => 1
+0 grant 0 300 => 300
+# The same tag has the same bucket.
+0 choose 1 0 gold => 2
+0 grant 1 300 => 200
+# Another has its own, be it by the case of a letter.
+0 choose 1 0 iron => 3
+0 grant 2 300 => 300
+0 choose 1 0 Gold => 4
+0 grant 3 1000 => 500
+# No octets are a tag.
+0 choose 1 0  => 5
+0 grant 4 600 => 500
+1000 grant 0 1000 => 100
+# 500 + 100 = 0 + 0 + 600.
+1000 numbers 0 0 => 0 500 100 0 600
+1000 numbers 0 1 => none
+# Number 6 goes to a seat of other pools.
+1000 pass => done
+1000 choose 1 0 gold => 7
+1000 choose 1 1 gold => 8
+1000 grant 6 12345 => 12345
+1000 numbers 6 0 => none
+1000 leave 0 => done
+2000 grant 1 1000 => 100
+# Another epoch has buckets of its own.
+2000 renew 2 => done
+2000 choose 2 0 gold => 9
+2000 grant 7 1000 => 500
+2000 grant 1 1000 => 0
+3000 grant 1 50 => 50
+3000 grant 7 1000 => 100
+3000 numbers 7 0 => 0 500 100 0 600";
 
 /// The sum of what the steps grant.
 const SUM: u128 = 14995;
 
-/// A pool of class 5 with this pair.
-fn pool(alloc: Global, pair: Option<Limit>) -> Result<PoolPart, Fail> {
-    let mut limits = Limits::new(alloc);
-    limits.push(pair)?;
-    Ok(PoolPart {
-        class: 5,
-        pairs: limits,
-        lists: RuleParts::new(alloc),
-    })
-}
-
 fn config(alloc: Global) -> Result<Arc<Config>, Fail> {
-    let mut pools = PoolParts::new(alloc);
     let pair = Limit {
         restore: 100,
         max: 1000,
     };
-    pools.push(pool(alloc, Some(pair))?)?;
-    pools.push(pool(alloc, None)?)?;
-    let parts = Parts {
-        source: Text::new(alloc),
-        dst_lookup: false,
-        classes: Classes::new(alloc),
-        acls: AclParts::new(alloc),
-        rules: RuleParts::new(alloc),
-        pools,
-        initial: 50,
-        port: 3128,
-        rewriter: None,
-        headers: Listed::new(alloc),
-        notices: Listed::new(alloc),
-    };
-    if parts.pools.len() > 64 {
-        return Err(Fail::new("too many pools"));
-    }
-    let config = Config::build(alloc, parts)?;
-    Ok(Arc::new(alloc, config)?)
+    let mut pools = PoolParts::new(alloc);
+    add_pool(alloc, &mut pools, Some(pair))?;
+    add_pool(alloc, &mut pools, None)?;
+    config_of(alloc, pools, 50)
 }
 
-/// A moment of so many milliseconds.
-fn moment(milliseconds: u64) -> Moment {
-    Moment(milliseconds.min(9223372036854775807))
+/// Adds a pool of class 5 with this pair.
+fn add_pool(alloc: Global, pools: &mut PoolParts, pair: Option<Limit>) -> Result<(), Fail> {
+    let mut limits = Limits::new(alloc);
+    limits.push(pair)?;
+    pools.push(pool_of(alloc, 5, limits))?;
+    Ok(())
 }
 
 /// Whether a pool is there and has buckets by tags.
@@ -131,74 +81,136 @@ fn takes(config: &Config, pool: u32) -> bool
     }
 }
 
-/// A seat for a tag.
+/// The number of a seat for a tag, which is kept.
 fn choose(
-    alloc: Global,
-    pools: &mut TagPools,
-    config: &Arc<Config>,
-    epoch: u32,
-    pool: u32,
-    tag: &[u8],
-    now: Moment,
-) -> Result<TagSeat, Fail> {
-    if !takes(config, pool) {
-        return Err(Fail::new("no such pool"));
-    }
-    let tag = Text::from_slice(alloc, tag)?;
-    Ok(pools.choose(alloc, EpochNo(u64::from(epoch)), config, pool, &tag, now)?)
-}
-
-/// The seat at a place.
-fn seat_at(seats: &[Option<TagSeat>], place: usize) -> Result<&TagSeat, Fail> {
-    match seats.get(place) {
-        Some(Some(seat)) => Ok(seat),
-        _ => Err(Fail::new("no such seat")),
-    }
-}
-
-/// Makes a call.
-fn run_call(
     alloc: Global,
     pools: &mut TagPools,
     config: &Arc<Config>,
     seats: &mut Vec<Option<TagSeat>>,
     now: Moment,
-    call: Call,
-) -> Result<Came, Fail> {
-    Ok(match call {
-        Renew(epoch) => {
-            pools.renew(alloc, EpochNo(u64::from(epoch)), config, now)?;
-            Done
+    words: &str,
+) -> Result<String, Fail> {
+    let (epoch, words) = words.split_once(' ').ok_or("no pool")?;
+    let (pool, tag) = words.split_once(' ').ok_or("no tag")?;
+    let epoch = EpochNo(number(epoch)?);
+    let pool = number(pool)? as u32;
+    if !takes(config, pool) {
+        return Err(Fail::new("no such pool"));
+    }
+    let tag = Text::from_slice(alloc, tag.as_bytes())?;
+    let seat = pools.choose(alloc, epoch, config, pool, &tag, now)?;
+    let number = seat.number().0;
+    seats.push(Some(seat))?;
+    count(alloc, number)
+}
+
+/// The seat at a place.
+fn seat_at<'a>(seats: &'a [Option<TagSeat>], place: &str) -> Result<&'a TagSeat, Fail> {
+    match seats.get(number(place)? as usize) {
+        Some(Some(seat)) => Ok(seat),
+        _ => Err(Fail::new("no such seat")),
+    }
+}
+
+fn renew(
+    alloc: Global,
+    pools: &mut TagPools,
+    config: &Arc<Config>,
+    now: Moment,
+    epoch: &str,
+) -> Result<String, Fail> {
+    pools.renew(alloc, EpochNo(number(epoch)?), config, now)?;
+    said(alloc, "done")
+}
+
+fn grant(
+    alloc: Global,
+    pools: &mut TagPools,
+    seats: &[Option<TagSeat>],
+    now: Moment,
+    words: &str,
+) -> Result<String, Fail> {
+    let (place, wanted) = words.split_once(' ').ok_or("no amount")?;
+    let granted = pools.grant(seat_at(seats, place)?, amount(wanted)?, now);
+    count(alloc, granted)
+}
+
+/// Gives up the seat at a place.
+fn leave(
+    alloc: Global,
+    pools: &mut TagPools,
+    seats: &mut Vec<Option<TagSeat>>,
+    place: &str,
+) -> Result<String, Fail> {
+    let Some(slot) = seats.get_mut(number(place)? as usize) else {
+        return Err(Fail::new("no such seat"));
+    };
+    if let Some(seat) = slot.take() {
+        pools.leave(seat);
+    }
+    said(alloc, "done")
+}
+
+fn numbers(
+    alloc: Global,
+    pools: &TagPools,
+    seats: &[Option<TagSeat>],
+    words: &str,
+) -> Result<String, Fail> {
+    let (place, i) = words.split_once(' ').ok_or("no bucket")?;
+    let i = number(i)? as u32;
+    bucket_shown(alloc, pools.bucket(seat_at(seats, place)?, i))
+}
+
+fn pass(alloc: Global, pools: &mut TagPools) -> Result<String, Fail> {
+    if !pools.pass() {
+        return Err(Fail::new("the numbers are used up"));
+    }
+    said(alloc, "done")
+}
+
+/// What a call comes to.
+fn answer(
+    alloc: Global,
+    pools: &mut TagPools,
+    config: &Arc<Config>,
+    seats: &mut Vec<Option<TagSeat>>,
+    now: Moment,
+    call: &str,
+) -> Result<String, Fail> {
+    if call == "pass" {
+        return pass(alloc, pools);
+    }
+    let (name, words) = call.split_once(' ').ok_or("no words")?;
+    match name {
+        "renew" => renew(alloc, pools, config, now, words),
+        "choose" => choose(alloc, pools, config, seats, now, words),
+        "grant" => grant(alloc, pools, seats.as_slice(), now, words),
+        "leave" => leave(alloc, pools, seats, words),
+        "numbers" => numbers(alloc, pools, seats.as_slice(), words),
+        _ => Err(Fail::new("no call")),
+    }
+}
+
+/// Makes the calls in turn, and ends the process where one comes to something else.
+fn check(
+    rt: &impl Abort,
+    alloc: Global,
+    pools: &mut TagPools,
+    config: &Arc<Config>,
+    seats: &mut Vec<Option<TagSeat>>,
+) -> Result<(), Fail> {
+    for row in STEPS.lines() {
+        if row.starts_with('#') {
+            continue;
         }
-        Choose(epoch, pool, tag) => {
-            let seat = choose(alloc, pools, config, epoch, pool, tag, now)?;
-            let number = seat.number().0;
-            seats.push(Some(seat))?;
-            Number(number)
-        }
-        Pass => {
-            if !pools.pass() {
-                return Err(Fail::new("the numbers are used up"));
-            }
-            Done
-        }
-        Grant(place, wanted) => {
-            Granted(pools.grant(seat_at(seats.as_slice(), place)?, wanted, now))
-        }
-        Leave(place) => {
-            let Some(slot) = seats.get_mut(place) else {
-                return Err(Fail::new("no such seat"));
-            };
-            if let Some(seat) = slot.take() {
-                pools.leave(seat);
-            }
-            Done
-        }
-        Numbers(place, i) => match pools.bucket(seat_at(seats.as_slice(), place)?, i) {
-            Some(b) => Bucket(b.level, b.opened, b.restored, b.spilled, b.granted),
-            None => NoBucket,
-        },
-    })
+        let (call, wanted) = row.split_once(" => ").ok_or("no outcome")?;
+        let (now, call) = call.split_once(' ').ok_or("no call")?;
+        let came = answer(alloc, pools, config, seats, moment(now)?, call)?;
+        assert!(rt; came.as_str() == wanted, "{row}");
+    }
+    assert!(rt; pools.granted() == SUM);
+    Ok(())
 }
 
 #[test]
@@ -207,11 +219,5 @@ fn seats_of_a_tag_are_granted_what_its_bucket_holds(rt: HostRuntime) -> Result<(
     let config = config(alloc)?;
     let mut pools = TagPools::new(alloc, EpochNo(1), &config, Moment(0))?;
     let mut seats = Vec::new(alloc);
-    for (now, call, came) in &STEPS {
-        let now = moment(*now);
-        let found = run_call(alloc, &mut pools, &config, &mut seats, now, *call)?;
-        assert!(rt; found == *came, "{now:?} {call:?}");
-    }
-    assert!(rt; pools.granted() == SUM);
-    Ok(())
+    check(&rt, alloc, &mut pools, &config, &mut seats)
 }
