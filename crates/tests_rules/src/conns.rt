@@ -70,7 +70,7 @@ fn port(conns: &Conns) -> u16 {
     }
 }
 
-/// Whether so many connections are open, of which so many are of 10.0.0.1 and of 10.0.0.2, and none has a check.
+/// Whether so many connections are open, of which so many are of 10.0.0.1 and of 10.0.0.2, and connection 7 has no check.
 fn are_counted(conns: &Conns, all: usize, of_one: u32, of_two: u32) -> bool {
     conns.len() == all
         && !conns.is_full()
