@@ -2,20 +2,15 @@
 ghost use Rattle.std.specs.Prelude.{◌<◌};
 
 use crate::fixtures::{Asked, class};
-use sq_base::{Cause, ProcNo, QuestionNo, Text, WantOfMemory};
+use sq_base::{Cause, ProcNo, QuestionNo, Text};
 use sq_farm::{Farm, FarmAct, PutFault, StartFault};
 use std::alloc::Global;
 use std::process::Abort;
-use std::test::Fail;
 
 /// Puts the next question, and says how that was refused, if it was.
-fn refused(
-    alloc: Global,
-    asked: &mut Asked,
-    text: &[u8],
-) -> Result<Option<PutFault>, WantOfMemory> {
-    let text = Text::from_slice(alloc, text)?;
-    Ok(asked.put(text).err())
+fn refused(rt: &impl Abort, alloc: Global, asked: &mut Asked, text: &[u8]) -> Option<PutFault> {
+    let text = Text::from_slice(alloc, text).expect(rt, "memory");
+    asked.put(text).err()
 }
 
 fn starts(asked: &mut Asked) -> bool {
@@ -42,51 +37,49 @@ fn sends(asked: &mut Asked, wanted: &[u8]) -> bool {
 }
 
 /// Ends the process unless there is room for one question, before a process starts and while it is asked.
-fn fill(rt: &impl Abort, alloc: Global, asked: &mut Asked) -> Result<(), Fail> {
-    let first = refused(alloc, asked, b"a.example")?;
-    let second = refused(alloc, asked, b"b.example")?;
+fn fill(rt: &impl Abort, alloc: Global, asked: &mut Asked) {
+    let first = refused(rt, alloc, asked, b"a.example");
+    let second = refused(rt, alloc, asked, b"b.example");
     assert!(rt; first == None && second == Some(PutFault::Full));
     assert!(rt; starts(asked) && rests(asked));
     assert!(rt; asked.started(alloc, 1) && sends(asked, b"a.example"));
-    let third = refused(alloc, asked, b"c.example")?;
+    let third = refused(rt, alloc, asked, b"c.example");
     assert!(rt; third == Some(PutFault::Full));
-    Ok(())
 }
 
 /// Whether a farm is full, and nothing is due.
-fn is_filled(alloc: Global, farm: &Farm) -> Result<bool, Fail> {
-    Ok(farm.is_full() && !farm.send_due() && matches!(farm.due(alloc)?, None))
+fn is_filled(rt: &impl Abort, alloc: Global, farm: &Farm) -> bool {
+    let due = farm.due(alloc).expect(rt, "memory");
+    farm.is_full() && !farm.send_due() && matches!(due, None)
 }
 
 /// A process may still be started, so one question may wait; then the queue is full.
 #[test]
-fn a_process_that_may_start_is_room(rt: HostRuntime) -> Result<(), Fail> {
+fn a_process_that_may_start_is_room(rt: HostRuntime) {
     let alloc = rt.alloc();
     let mut asked = Asked::new(alloc, &class(alloc, 1, 0, 0));
-    fill(&rt, alloc, &mut asked)?;
+    fill(&rt, alloc, &mut asked);
     let farm = asked.farm();
-    assert!(rt; is_filled(alloc, &farm)?);
-    Ok(())
+    assert!(rt; is_filled(&rt, alloc, &farm));
 }
 
 /// Puts two questions, for each of which a process is started.
-fn are_put(alloc: Global, asked: &mut Asked) -> Result<bool, WantOfMemory> {
-    let first = refused(alloc, asked, b"a.example")?;
+fn are_put(rt: &impl Abort, alloc: Global, asked: &mut Asked) -> bool {
+    let first = refused(rt, alloc, asked, b"a.example");
     let starts_one = starts(asked);
-    let second = refused(alloc, asked, b"a.example")?;
+    let second = refused(rt, alloc, asked, b"a.example");
     let starts_another = starts(asked);
-    Ok(first == None && starts_one && second == None && starts_another)
+    first == None && starts_one && second == None && starts_another
 }
 
 /// Ends the process unless both starts fail, no other is open, and one is due when a question is put.
-fn fail_starts(rt: &impl Abort, alloc: Global, asked: &mut Asked) -> Result<(), Fail> {
-    assert!(rt; are_put(alloc, asked)?);
+fn fail_starts(rt: &impl Abort, alloc: Global, asked: &mut Asked) {
+    assert!(rt; are_put(rt, alloc, asked));
     assert!(rt; asked.start_failed() == Ok(()) && rests(asked));
     assert!(rt; asked.start_failed() == Ok(()) && rests(asked));
     assert!(rt; asked.start_failed() == Err(StartFault::NoStartOpen));
-    let third = refused(alloc, asked, b"c.example")?;
+    let third = refused(rt, alloc, asked, b"c.example");
     assert!(rt; third == None && starts(asked));
-    Ok(())
 }
 
 /// Whether the next lost question is this one, for want of a helper.
@@ -98,11 +91,10 @@ fn loses(farm: &mut Farm, question: u64) -> bool
 
 /// The last start that fails loses the queue and holds starts, until a question is put.
 #[test]
-fn the_last_failed_start_loses_the_queue(rt: HostRuntime) -> Result<(), Fail> {
+fn the_last_failed_start_loses_the_queue(rt: HostRuntime) {
     let alloc = rt.alloc();
     let mut asked = Asked::new(alloc, &class(alloc, 2, 0, 10));
-    fail_starts(&rt, alloc, &mut asked)?;
+    fail_starts(&rt, alloc, &mut asked);
     let mut farm = asked.farm();
     assert!(rt; loses(&mut farm, 1) && loses(&mut farm, 2) && farm.next_lost() == None);
-    Ok(())
 }

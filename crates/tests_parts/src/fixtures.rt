@@ -1,5 +1,5 @@
 //! What several tests share: classes, words and numbers of tables, farms with open questions, configurations with pools.
-ghost use Rattle.std.specs.Prelude.{◌≤◌, ◌<◌, IfOk};
+ghost use Rattle.std.specs.Prelude.{◌≤◌, ◌<◌};
 
 use sq_base::{Listed, Moment, ProcNo, QuestionNo, Text, Texts, WantOfMemory, number_of};
 use sq_channel::Process;
@@ -8,8 +8,8 @@ use sq_pools::Bucket;
 use sq_rules::{AclParts, Class, Classes, Config, Limits, Parts, PoolPart, PoolParts, RuleParts};
 use std::alloc::Global;
 use std::marker::Model;
+use std::process::Abort;
 use std::sync::Arc;
-use std::test::Fail;
 
 /// A class with these options.
 pub fn class(alloc: Global, children_max: u32, concurrency: u32, queue_size: u32) -> Class
@@ -34,41 +34,41 @@ pub fn class(alloc: Global, children_max: u32, concurrency: u32, queue_size: u32
 }
 
 /// A text of this word.
-pub fn said(alloc: Global, word: &str) -> Result<String, Fail> {
+pub fn said(rt: &impl Abort, alloc: Global, word: &str) -> String {
     let mut text = String::new(alloc);
-    text.push_str(word)?;
-    Ok(text)
+    text.push_str(word).expect(rt, "memory");
+    text
 }
 
 /// A text of this word and this number.
-pub fn said_of(alloc: Global, word: &str, number: u64) -> Result<String, Fail> {
-    Ok(format!(in alloc; "{word} {number}")?)
+pub fn said_of(rt: &impl Abort, alloc: Global, word: &str, number: u64) -> String {
+    format!(in alloc; "{word} {number}").expect(rt, "memory")
 }
 
 /// A text of this number.
-pub fn count(alloc: Global, number: u64) -> Result<String, Fail> {
-    Ok(format!(in alloc; "{number}")?)
+pub fn count(rt: &impl Abort, alloc: Global, number: u64) -> String {
+    format!(in alloc; "{number}").expect(rt, "memory")
 }
 
 /// The small number that a word is.
-pub fn number(word: &str) -> Result<u64, Fail>
-    ensures { IfOk result (λ n. n < 100) }
+pub fn number(rt: &impl Abort, word: &str) -> u64
+    ensures { result < 100 }
 {
     match number_of(word.as_bytes(), 100) {
-        Some(number) => Ok(number),
-        None => Err(Fail::new("no number")),
+        Some(number) => number,
+        None => rt.panic("no number"),
     }
 }
 
 /// The number that a word is.
-pub fn amount(word: &str) -> Result<u64, Fail> {
-    Ok(word.parse()?)
+pub fn amount(rt: &impl Abort, word: &str) -> u64 {
+    word.parse::<u64>().expect(rt, "a number")
 }
 
 /// The moment of so many milliseconds.
-pub fn moment(word: &str) -> Result<Moment, Fail> {
-    let milliseconds = amount(word)?;
-    Ok(Moment(milliseconds.min(9223372036854775807)))
+pub fn moment(rt: &impl Abort, word: &str) -> Moment {
+    let milliseconds = amount(rt, word);
+    Moment(milliseconds.min(9223372036854775807))
 }
 
 /// A farm that is asked questions in the order of their numbers.
@@ -130,19 +130,19 @@ impl Asked {
 }
 
 /// A farm with questions 1 and 2, sent to its process 1 as far as that has channels.
-pub fn with_open(alloc: Global, concurrency: u32) -> Result<Farm, WantOfMemory>
+pub fn with_open(rt: &impl Abort, alloc: Global, concurrency: u32) -> Farm
     requires { concurrency ≤ 1024 }
 {
     let mut asked = Asked::new(alloc, &class(alloc, 1, concurrency, 10));
     for text in [b"a.example".as_slice(), b"b.example"] {
-        let text = Text::from_slice(alloc, text)?;
+        let text = Text::from_slice(alloc, text).expect(rt, "memory");
         let _ = asked.put(text);
     }
     let _ = asked.act();
     let _ = asked.started(alloc, 1);
     let _ = asked.act();
     let _ = asked.act();
-    Ok(asked.farm())
+    asked.farm()
 }
 
 /// A process with question 1 on its first channel.
@@ -162,9 +162,9 @@ pub fn pool_of(alloc: Global, class: u8, limits: Limits) -> PoolPart {
 }
 
 /// A configuration with these pools, whose buckets open at this level.
-pub fn config_of(alloc: Global, pools: PoolParts, level: u8) -> Result<Arc<Config>, Fail> {
+pub fn config_of(rt: &impl Abort, alloc: Global, pools: PoolParts, level: u8) -> Arc<Config> {
     if pools.len() > 64 || level > 100 {
-        return Err(Fail::new("too many pools, or too high a level"));
+        rt.panic("too many pools, or too high a level");
     }
     let parts = Parts {
         source: Text::new(alloc),
@@ -179,19 +179,20 @@ pub fn config_of(alloc: Global, pools: PoolParts, level: u8) -> Result<Arc<Confi
         headers: Listed::new(alloc),
         notices: Listed::new(alloc),
     };
-    let config = Config::build(alloc, parts)?;
-    Ok(Arc::new(alloc, config)?)
+    let config = Config::build(alloc, parts).expect(rt, "a configuration");
+    Arc::new(alloc, config).expect(rt, "memory")
 }
 
 /// A bucket's level and what it opened at, gained, lost and granted.
-pub fn bucket_shown(alloc: Global, bucket: Option<Bucket>) -> Result<String, Fail> {
+pub fn bucket_shown(rt: &impl Abort, alloc: Global, bucket: Option<Bucket>) -> String {
     match bucket {
         Some(b) => {
-            Ok(format!(in alloc;
+            format!(in alloc;
                 "{} {} {} {} {}",
                 b.level, b.opened, b.restored, b.spilled, b.granted
-            )?)
+            )
+            .expect(rt, "memory")
         }
-        None => said(alloc, "none"),
+        None => said(rt, alloc, "none"),
     }
 }

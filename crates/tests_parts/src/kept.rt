@@ -7,7 +7,6 @@ use sq_rules::{Class, Token, Tokens};
 use std::alloc::Global;
 use std::hash::RandomState;
 use std::process::Abort;
-use std::test::Fail;
 
 /// Options `ttl=`, `negative_ttl=` and `grace=`, whether the answer is OK, its date, a moment, and what is
 /// taken then: nothing, or whether the refresh is due.
@@ -75,11 +74,12 @@ static ORDER: [Order; 9] = [
 ];
 
 /// A class of one letter with these options.
-fn class(alloc: Global, ttl: u16, negative_ttl: u16, grace: u8) -> Result<Class, Fail> {
+fn class(rt: &impl Abort, alloc: Global, ttl: u16, negative_ttl: u16, grace: u8) -> Class {
+    let name = Text::from_slice(alloc, b"v").expect(rt, "memory");
     let mut format = Tokens::new(alloc);
-    format.push(Token::Arguments)?;
-    Ok(Class {
-        name: Text::from_slice(alloc, b"v")?,
+    format.push(Token::Arguments).expect(rt, "memory");
+    Class {
+        name,
         ttl: u32::from(ttl),
         negative_ttl: u32::from(negative_ttl),
         grace: u32::from(grace.min(100)),
@@ -90,42 +90,56 @@ fn class(alloc: Global, ttl: u16, negative_ttl: u16, grace: u8) -> Result<Class,
         queue_size: 10,
         format,
         words: Texts::new(alloc),
-    })
+    }
 }
 
 /// The pair of a reply.
-fn pair(alloc: Global) -> Result<Pair, Fail> {
-    let key = Text::from_slice(alloc, b"user")?;
-    let value = Text::from_slice(alloc, b"joe")?;
-    Ok(Pair { key, value })
+fn pair(rt: &impl Abort, alloc: Global) -> Pair {
+    let key = Text::from_slice(alloc, b"user").expect(rt, "memory");
+    let value = Text::from_slice(alloc, b"joe").expect(rt, "memory");
+    Pair { key, value }
 }
 
-fn pairs(alloc: Global) -> Result<Pairs, Fail> {
+fn pairs(rt: &impl Abort, alloc: Global) -> Pairs {
     let mut pairs = Pairs::new(alloc);
-    pairs.push(pair(alloc)?)?;
-    Ok(pairs)
+    pairs.push(pair(rt, alloc)).expect(rt, "memory");
+    pairs
+}
+
+/// A key of one letter.
+fn key_of(rt: &impl Abort, alloc: Global, key: u8) -> Text {
+    Text::from_slice(alloc, &[key]).expect(rt, "memory")
+}
+
+/// What keeps two verdicts.
+fn kept_of_two(rt: &impl Abort, alloc: Global) -> Kept
+    ensures { result.limit ≡ 2 }
+{
+    Kept::new(alloc, 2).expect(rt, "memory")
 }
 
 /// Keeps the answer of question 7 under a key of one letter.
 fn put(
+    rt: &impl Abort,
     alloc: Global,
     kept: &mut Kept,
     key: u8,
     class: &Class,
     yes: bool,
     date: u32,
-) -> Result<(), Fail>
+)
     ensures { kept.new.limit ≡ kept.old.limit }
 {
-    let key = Text::from_slice(alloc, &[key])?;
-    let pairs = pairs(alloc)?;
+    let key = key_of(rt, alloc, key);
+    let pairs = pairs(rt, alloc);
     let what = if yes {
         What::Yes(pairs)
     } else {
         What::No(pairs)
     };
-    kept.put(key, what, QuestionNo(7), class, Moment(u64::from(date)))?;
-    Ok(())
+    let date = Moment(u64::from(date));
+    kept.put(key, what, QuestionNo(7), class, date)
+        .expect(rt, "memory");
 }
 
 /// Whether this is an OK, or an ERR, with one pair.
@@ -152,192 +166,181 @@ fn is_wanted(taken: &Option<Taken>, case: &Fresh) -> bool {
 
 /// Whether a peek at a key gives what a case says.
 fn peek_gives(
+    rt: &impl Abort,
     alloc: Global,
     kept: &Kept,
     class: &Class,
     key: &Text,
     case: &Fresh,
-) -> Result<bool, Fail> {
-    let peeked = kept.peek(alloc, key, class, Moment(u64::from(case.5)))?;
-    Ok(is_wanted(&peeked, case))
+) -> bool {
+    let now = Moment(u64::from(case.5));
+    let peeked = kept.peek(alloc, key, class, now).expect(rt, "memory");
+    is_wanted(&peeked, case)
 }
 
 /// Whether a take of a key gives what a case says.
 fn take_gives(
+    rt: &impl Abort,
     alloc: Global,
     kept: &mut Kept,
     class: &Class,
     key: &Text,
     case: &Fresh,
-) -> Result<bool, Fail> {
-    let taken = kept.take(alloc, key, class, Moment(u64::from(case.5)))?;
-    Ok(is_wanted(&taken, case))
+) -> bool {
+    let now = Moment(u64::from(case.5));
+    let taken = kept.take(alloc, key, class, now).expect(rt, "memory");
+    is_wanted(&taken, case)
 }
 
 /// Whether a peek and a take give what a case says of an answer that is put.
 fn kept_gives(
+    rt: &impl Abort,
     alloc: Global,
     kept: &mut Kept,
     class: &Class,
     key: &Text,
     case: &Fresh,
-) -> Result<bool, Fail> {
-    put(alloc, kept, b'k', class, case.3, case.4)?;
-    let peeks = peek_gives(alloc, kept, class, key, case)?;
-    let takes = take_gives(alloc, kept, class, key, case)?;
-    Ok(peeks && takes)
+) -> bool {
+    put(rt, alloc, kept, b'k', class, case.3, case.4);
+    let peeks = peek_gives(rt, alloc, kept, class, key, case);
+    let takes = take_gives(rt, alloc, kept, class, key, case);
+    peeks && takes
 }
 
 /// Whether a peek and a take give what a case says.
-fn gives(alloc: Global, case: &Fresh) -> Result<bool, Fail> {
-    let key = Text::from_slice(alloc, b"k")?;
-    let class = class(alloc, case.0, case.1, case.2)?;
-    let mut kept = Kept::new(alloc, 2)?;
-    kept_gives(alloc, &mut kept, &class, &key, case)
+fn gives(rt: &impl Abort, alloc: Global, case: &Fresh) -> bool {
+    let key = key_of(rt, alloc, b'k');
+    let class = class(rt, alloc, case.0, case.1, case.2);
+    let mut kept = kept_of_two(rt, alloc);
+    kept_gives(rt, alloc, &mut kept, &class, &key, case)
 }
 
 #[test]
-fn verdicts_are_fresh_to_the_millisecond(rt: HostRuntime) -> Result<(), Fail> {
+fn verdicts_are_fresh_to_the_millisecond(rt: HostRuntime) {
     for case in &FRESH {
-        assert!(rt; gives(rt.alloc(), case)?, "{case:?}");
+        assert!(rt; gives(&rt, rt.alloc(), case), "{case:?}");
     }
-    Ok(())
 }
 
 /// Peeks at a key, and drops what it gives.
-fn peek_at(alloc: Global, kept: &Kept, class: &Class, key: &Text) -> Result<(), Fail> {
-    let _ = kept.peek(alloc, key, class, Moment(1))?;
-    Ok(())
+fn peek_at(rt: &impl Abort, alloc: Global, kept: &Kept, class: &Class, key: &Text) {
+    let _ = kept.peek(alloc, key, class, Moment(1)).expect(rt, "memory");
 }
 
 /// Takes a key at a moment, and drops what it gives.
-fn take_at(
-    alloc: Global,
-    kept: &mut Kept,
-    class: &Class,
-    key: &Text,
-    now: u32,
-) -> Result<(), Fail> {
-    let _ = kept.take(alloc, key, class, Moment(u64::from(now)))?;
-    Ok(())
+fn take_at(rt: &impl Abort, alloc: Global, kept: &mut Kept, class: &Class, key: &Text, now: u32) {
+    let now = Moment(u64::from(now));
+    let _ = kept.take(alloc, key, class, now).expect(rt, "memory");
 }
 
 /// One use of a key; verdicts are of moment 0 and fresh for a second.
-fn use_key(alloc: Global, kept: &mut Kept, class: &Class, how: u8, key: u8) -> Result<(), Fail> {
-    let text = Text::from_slice(alloc, &[key])?;
+fn use_key(rt: &impl Abort, alloc: Global, kept: &mut Kept, class: &Class, how: u8, key: u8) {
+    let text = key_of(rt, alloc, key);
     match how {
-        b'+' => put(alloc, kept, key, class, true, 0),
-        b'?' => peek_at(alloc, kept, class, &text),
-        b'!' => take_at(alloc, kept, class, &text, 1),
-        b'-' => take_at(alloc, kept, class, &text, 1_000),
-        _ => {
-            kept.promote(&text);
-            Ok(())
-        }
+        b'+' => put(rt, alloc, kept, key, class, true, 0),
+        b'?' => peek_at(rt, alloc, kept, class, &text),
+        b'!' => take_at(rt, alloc, kept, class, &text, 1),
+        b'-' => take_at(rt, alloc, kept, class, &text, 1_000),
+        _ => kept.promote(&text),
     }
 }
 
 /// Whether a key is kept.
-fn has_key(alloc: Global, kept: &Kept, class: &Class, key: u8) -> Result<bool, Fail> {
-    let text = Text::from_slice(alloc, &[key])?;
-    let found = kept.peek(alloc, &text, class, Moment(0))?;
-    Ok(found.is_some())
+fn has_key(rt: &impl Abort, alloc: Global, kept: &Kept, class: &Class, key: u8) -> bool {
+    let text = key_of(rt, alloc, key);
+    let found = kept
+        .peek(alloc, &text, class, Moment(0))
+        .expect(rt, "memory");
+    found.is_some()
 }
 
 /// Whether exactly these of the keys `a` to `c` are kept.
-fn has_keys(alloc: Global, kept: &Kept, class: &Class, wanted: &[u8]) -> Result<bool, Fail> {
+fn has_keys(rt: &impl Abort, alloc: Global, kept: &Kept, class: &Class, wanted: &[u8]) -> bool {
     for key in b"abc" {
-        if has_key(alloc, kept, class, *key)? != wanted.contains(key) {
-            return Ok(false);
+        if has_key(rt, alloc, kept, class, *key) != wanted.contains(key) {
+            return false;
         }
     }
-    Ok(true)
+    true
 }
 
 /// Uses keys in turn, and says whether exactly these are kept then.
 fn uses_leave(
+    rt: &impl Abort,
     alloc: Global,
     kept: &mut Kept,
     class: &Class,
     uses: &[(u8, u8)],
     wanted: &[u8],
-) -> Result<bool, Fail> {
+) -> bool {
     for (how, key) in uses {
-        use_key(alloc, kept, class, *how, *key)?;
+        use_key(rt, alloc, kept, class, *how, *key);
     }
-    has_keys(alloc, kept, class, wanted)
+    has_keys(rt, alloc, kept, class, wanted)
 }
 
 /// Whether the uses of a row leave the keys that it says.
-fn leaves(alloc: Global, class: &Class, row: &Order, seed: HashSeed) -> Result<bool, Fail> {
+fn leaves(rt: &impl Abort, alloc: Global, class: &Class, row: &Order, seed: HashSeed) -> bool {
     let (limit, uses, wanted) = row;
-    let mut kept = Kept::with_seed(alloc, u32::from(*limit), seed)?;
-    uses_leave(alloc, &mut kept, class, uses, wanted)
+    let mut kept = Kept::with_seed(alloc, u32::from(*limit), seed).expect(rt, "memory");
+    uses_leave(rt, alloc, &mut kept, class, uses, wanted)
 }
 
 /// Ends the process where the uses of a row leave other keys, with a seed of the tests and with a drawn one.
-fn check_order(
-    rt: &impl Abort,
-    alloc: Global,
-    class: &Class,
-    state: RandomState,
-) -> Result<(), Fail> {
+fn check_order(rt: &impl Abort, alloc: Global, class: &Class, state: RandomState) {
     for row in &ORDER {
-        assert!(rt; leaves(alloc, class, row, HashSeed::fixed())?, "{row:?}");
+        assert!(rt; leaves(rt, alloc, class, row, HashSeed::fixed()), "{row:?}");
         assert!(rt;
-            leaves(alloc, class, row, HashSeed::drawn(state))?,
+            leaves(rt, alloc, class, row, HashSeed::drawn(state)),
             "{row:?}, drawn"
         );
     }
-    Ok(())
 }
 
 #[test]
-fn the_least_lately_used_goes_first(rt: HostRuntime) -> Result<(), Fail> {
+fn the_least_lately_used_goes_first(rt: HostRuntime) {
     let alloc = rt.alloc();
-    let class = class(alloc, 1, 1, 0)?;
-    let Ok(state) = RandomState::new(&rt) else {
-        return Err(Fail::new("no random bytes"));
-    };
-    check_order(&rt, alloc, &class, state)
+    let class = class(&rt, alloc, 1, 1, 0);
+    let state = RandomState::new(&rt).expect(&rt, "random bytes");
+    check_order(&rt, alloc, &class, state);
 }
 
 /// Whether the verdict of one `Kept` stands in another of its limit after an exchange, and there alone.
-fn moves(alloc: Global, class: &Class) -> Result<bool, Fail> {
-    let mut before = Kept::new(alloc, 2)?;
-    let mut after = Kept::new(alloc, 2)?;
-    put(alloc, &mut before, b'a', class, true, 0)?;
+fn moves(rt: &impl Abort, alloc: Global, class: &Class) -> bool {
+    let mut before = kept_of_two(rt, alloc);
+    let mut after = kept_of_two(rt, alloc);
+    put(rt, alloc, &mut before, b'a', class, true, 0);
     before.exchange(&mut after);
-    have_moved(alloc, &before, &after, class)
+    have_moved(rt, alloc, &before, &after, class)
 }
 
 /// Whether key `a` is kept in the second alone.
-fn have_moved(alloc: Global, before: &Kept, after: &Kept, class: &Class) -> Result<bool, Fail> {
-    Ok(has_keys(alloc, before, class, b"")? && has_keys(alloc, after, class, b"a")?)
+fn have_moved(rt: &impl Abort, alloc: Global, before: &Kept, after: &Kept, class: &Class) -> bool {
+    has_keys(rt, alloc, before, class, b"") && has_keys(rt, alloc, after, class, b"a")
 }
 
 #[test]
-fn kept_verdicts_move_to_an_alike_class(rt: HostRuntime) -> Result<(), Fail> {
+fn kept_verdicts_move_to_an_alike_class(rt: HostRuntime) {
     let alloc = rt.alloc();
-    let class = class(alloc, 60, 60, 0)?;
-    assert!(rt; moves(alloc, &class)?);
-    Ok(())
+    let class = class(&rt, alloc, 60, 60, 0);
+    assert!(rt; moves(&rt, alloc, &class));
 }
 
 /// Whether a class is alike to one with these options.
 fn is_alike(
+    rt: &impl Abort,
     alloc: Global,
     one: &Class,
     ttl: u16,
     negative_ttl: u16,
     grace: u8,
-) -> Result<bool, Fail> {
-    let other = class(alloc, ttl, negative_ttl, grace)?;
-    Ok(one.alike(&other))
+) -> bool {
+    let other = class(rt, alloc, ttl, negative_ttl, grace);
+    one.alike(&other)
 }
 
 /// Ends the process unless a class is alike to those alone that have its options.
-fn check_alike(rt: &impl Abort, alloc: Global, one: &Class) -> Result<(), Fail> {
+fn check_alike(rt: &impl Abort, alloc: Global, one: &Class) {
     for (ttl, negative_ttl, grace, wanted) in [
         (60, 60, 0, true),
         (61, 60, 0, false),
@@ -345,15 +348,14 @@ fn check_alike(rt: &impl Abort, alloc: Global, one: &Class) -> Result<(), Fail> 
         (60, 60, 1, false),
     ] {
         assert!(rt;
-            is_alike(alloc, one, ttl, negative_ttl, grace)? == wanted,
+            is_alike(rt, alloc, one, ttl, negative_ttl, grace) == wanted,
             "ttl {ttl}, {negative_ttl}, grace {grace}"
         );
     }
-    Ok(())
 }
 
 #[test]
-fn classes_are_alike_where_all_parts_are(rt: HostRuntime) -> Result<(), Fail> {
-    let one = class(rt.alloc(), 60, 60, 0)?;
-    check_alike(&rt, rt.alloc(), &one)
+fn classes_are_alike_where_all_parts_are(rt: HostRuntime) {
+    let one = class(&rt, rt.alloc(), 60, 60, 0);
+    check_alike(&rt, rt.alloc(), &one);
 }

@@ -4,7 +4,6 @@ use sq_base::{ProcNo, QuestionNo, Reply, Text};
 use sq_farm::{Farm, FarmFault, Got};
 use std::alloc::Global;
 use std::process::Abort;
-use std::test::Fail;
 
 /// Channels of a process, 0 for one without channel numbers, on which question 1 is open, and question 2 waits; with 2 both
 /// are open, on channels 0 and 1. Then what it writes, each line with as many spaces at its end as stand behind a `~`, and
@@ -34,104 +33,105 @@ static ROWS: &str = "2: line 0 OK => reply 1 Yes, line 0 OK => stray, lost => 2 
 0: died => ok, lost => 1 Died";
 
 /// The line, with its spaces.
-fn line(alloc: Global, front: &str, spaces: usize) -> Result<Text, Fail> {
-    let mut text = Text::from_slice(alloc, front.as_bytes())?;
-    add_spaces(alloc, &mut text, spaces)?;
-    Ok(text)
+fn line(rt: &impl Abort, alloc: Global, front: &str, spaces: usize) -> Text {
+    let mut text = Text::from_slice(alloc, front.as_bytes()).expect(rt, "memory");
+    add_spaces(rt, alloc, &mut text, spaces);
+    text
 }
 
-fn add_spaces(alloc: Global, text: &mut Text, spaces: usize) -> Result<(), Fail> {
-    let rest = vec![in alloc; b' '; spaces]?;
-    text.append(&rest)?;
-    Ok(())
+fn add_spaces(rt: &impl Abort, alloc: Global, text: &mut Text, spaces: usize) {
+    let rest = vec![in alloc; b' '; spaces].expect(rt, "memory");
+    text.append(&rest).expect(rt, "memory");
 }
 
 /// The line of a row.
-fn line_of(alloc: Global, words: &str) -> Result<Text, Fail> {
+fn line_of(rt: &impl Abort, alloc: Global, words: &str) -> Text {
     match words.split_once('~') {
         Some((front, spaces)) => {
-            let spaces: u32 = spaces.parse()?;
-            line(alloc, front, spaces as usize)
+            let spaces: u32 = spaces.parse().expect(rt, "a number");
+            line(rt, alloc, front, spaces as usize)
         }
-        None => line(alloc, words, 0),
+        None => line(rt, alloc, words, 0),
     }
 }
 
 /// A reply with its question, its result and the value of its first pair.
-fn reply_shown(alloc: Global, question: u64, reply: &Reply) -> Result<String, Fail> {
+fn reply_shown(rt: &impl Abort, alloc: Global, question: u64, reply: &Reply) -> String {
     let word = reply.word;
-    match reply.pairs.as_slice().first() {
-        Some(pair) => Ok(format!(in alloc; "reply {question} {word:?} {}", pair.value)?),
-        None => Ok(format!(in alloc; "reply {question} {word:?}")?),
-    }
+    let shown = match reply.pairs.as_slice().first() {
+        Some(pair) => format!(in alloc; "reply {question} {word:?} {}", pair.value),
+        None => format!(in alloc; "reply {question} {word:?}"),
+    };
+    shown.expect(rt, "memory")
 }
 
-fn fault_shown(alloc: Global, fault: FarmFault) -> Result<String, Fail> {
-    Ok(format!(in alloc; "{fault}")?)
+fn fault_shown(rt: &impl Abort, alloc: Global, fault: FarmFault) -> String {
+    format!(in alloc; "{fault}").expect(rt, "memory")
 }
 
 /// What a line comes to.
-fn got(alloc: Global, farm: &mut Farm, words: &str) -> Result<String, Fail> {
-    let line = line_of(alloc, words)?;
-    got_of(alloc, farm, line.as_bytes())
+fn got(rt: &impl Abort, alloc: Global, farm: &mut Farm, words: &str) -> String {
+    let line = line_of(rt, alloc, words);
+    got_of(rt, alloc, farm, line.as_bytes())
 }
 
-fn got_of(alloc: Global, farm: &mut Farm, line: &[u8]) -> Result<String, Fail> {
+fn got_of(rt: &impl Abort, alloc: Global, farm: &mut Farm, line: &[u8]) -> String {
     match farm.got(alloc, ProcNo(1), line) {
-        Ok(Got::Reply(QuestionNo(question), reply)) => reply_shown(alloc, question, &reply),
-        Ok(Got::Bad) => said(alloc, "bad"),
-        Ok(Got::Stray) => said(alloc, "stray"),
-        Err(fault) => fault_shown(alloc, fault),
+        Ok(Got::Reply(QuestionNo(question), reply)) => reply_shown(rt, alloc, question, &reply),
+        Ok(Got::Bad) => said(rt, alloc, "bad"),
+        Ok(Got::Stray) => said(rt, alloc, "stray"),
+        Err(fault) => fault_shown(rt, alloc, fault),
     }
 }
 
-fn died(alloc: Global, farm: &mut Farm) -> Result<String, Fail> {
+fn died(rt: &impl Abort, alloc: Global, farm: &mut Farm) -> String {
     match farm.died(ProcNo(1)) {
-        Ok(()) => said(alloc, "ok"),
-        Err(fault) => fault_shown(alloc, fault),
+        Ok(()) => said(rt, alloc, "ok"),
+        Err(fault) => fault_shown(rt, alloc, fault),
     }
 }
 
-fn lost(alloc: Global, farm: &mut Farm) -> Result<String, Fail> {
+fn lost(rt: &impl Abort, alloc: Global, farm: &mut Farm) -> String {
     match farm.next_lost() {
-        Some((QuestionNo(question), cause)) => Ok(format!(in alloc; "{question} {cause:?}")?),
-        None => said(alloc, "none"),
+        Some((QuestionNo(question), cause)) => {
+            format!(in alloc; "{question} {cause:?}").expect(rt, "memory")
+        }
+        None => said(rt, alloc, "none"),
     }
 }
 
 /// What a step comes to.
-fn outcome(alloc: Global, farm: &mut Farm, step: &str) -> Result<String, Fail> {
+fn outcome(rt: &impl Abort, alloc: Global, farm: &mut Farm, step: &str) -> String {
     match step {
-        "died" => died(alloc, farm),
-        "lost" => lost(alloc, farm),
-        _ => got(alloc, farm, step.strip_prefix("line ").ok_or("no step")?),
+        "died" => died(rt, alloc, farm),
+        "lost" => lost(rt, alloc, farm),
+        _ => {
+            let words = step.strip_prefix("line ").expect(rt, "a step");
+            got(rt, alloc, farm, words)
+        }
     }
 }
 
 /// Ends the process unless these steps come to what they should, and no question is lost then.
-fn check(
-    rt: &impl Abort,
-    alloc: Global,
-    farm: &mut Farm,
-    row: &str,
-    steps: &str,
-) -> Result<(), Fail> {
+fn check(rt: &impl Abort, alloc: Global, farm: &mut Farm, row: &str, steps: &str) {
     for step in steps.split(", ") {
-        let (step, wanted) = step.split_once(" => ").ok_or("no outcome")?;
-        let came = outcome(alloc, farm, step)?;
+        let (step, wanted) = step.split_once(" => ").expect(rt, "an outcome");
+        let came = outcome(rt, alloc, farm, step);
         assert!(rt; came.as_str() == wanted, "{row}");
     }
     assert!(rt; farm.next_lost() == None, "{row}");
-    Ok(())
+}
+
+fn check_row(rt: &impl Abort, alloc: Global, row: &str) {
+    let (channels, steps) = row.split_once(": ").expect(rt, "channels");
+    let channels = number(rt, channels) as u32;
+    let mut farm = with_open(rt, alloc, channels);
+    check(rt, alloc, &mut farm, row, steps);
 }
 
 #[test]
-fn lines_end_or_answer(rt: HostRuntime) -> Result<(), Fail> {
+fn lines_end_or_answer(rt: HostRuntime) {
     for row in ROWS.lines() {
-        let (channels, steps) = row.split_once(": ").ok_or("no channels")?;
-        let channels = number(channels)? as u32;
-        let mut farm = with_open(rt.alloc(), channels)?;
-        check(&rt, rt.alloc(), &mut farm, row, steps)?;
+        check_row(&rt, rt.alloc(), row);
     }
-    Ok(())
 }

@@ -4,7 +4,6 @@ use sq_base::{CheckNo, QuestionNo, Text};
 use sq_lookup::{Checks, Lookups};
 use std::alloc::Global;
 use std::process::Abort;
-use std::test::Fail;
 
 /// A letter for a call, a key of one letter, a question, and a check, 0 for none: `o` opens, `j` joins the key,
 /// `l` lets the check leave, `a` answers the question. Then the checks that wait for question 1 and for 2, where
@@ -32,40 +31,41 @@ static STEPS: [Step; 9] = [
 
 /// Opens the lookup of a key.
 fn open(
+    rt: &impl Abort,
     alloc: Global,
     lookups: &mut Lookups,
     key: Text,
     question: u32,
     check: u32,
-) -> Result<(), Fail> {
+) {
     let question = QuestionNo(u64::from(question));
     if lookups.pending(&key).is_some() || lookups.waiting(question).is_some() {
-        return Err(Fail::new("open already"));
+        rt.panic("open already");
     }
     if check == 0 {
-        lookups.open(alloc, key, question, None)?;
-        return Ok(());
+        lookups
+            .open(alloc, key, question, None)
+            .expect(rt, "memory");
+        return;
     }
     let check = CheckNo(u64::from(check));
     if lookups.question(check).is_some() {
-        return Err(Fail::new("the check waits"));
+        rt.panic("the check waits");
     }
-    lookups.open(alloc, key, question, Some(check))?;
-    Ok(())
+    lookups
+        .open(alloc, key, question, Some(check))
+        .expect(rt, "memory");
 }
 
 /// Lets a check wait for the open question of a key, which is told by both calls alike.
-fn join(lookups: &mut Lookups, key: &Text, check: u32) -> Result<(), Fail> {
+fn join(rt: &impl Abort, lookups: &mut Lookups, key: &Text, check: u32) {
     let check = CheckNo(u64::from(check));
     let pending = lookups.pending(key);
     if pending.is_none() || lookups.question(check).is_some() {
-        return Err(Fail::new("no open key, or the check waits"));
+        rt.panic("no open key, or the check waits");
     }
-    let question = lookups.join(key, check)?;
-    if pending != Some(question) {
-        return Err(Fail::new("another question"));
-    }
-    Ok(())
+    let question = lookups.join(key, check).expect(rt, "memory");
+    assert!(rt; pending == Some(question), "another question");
 }
 
 /// Whether these are the checks, in this order.
@@ -101,40 +101,33 @@ fn answers(lookups: &mut Lookups, key: &Text, question: u32, check: u32) -> bool
 }
 
 /// One step; whether it goes as it should.
-fn run_step(alloc: Global, lookups: &mut Lookups, step: &Step) -> Result<bool, Fail> {
+fn run_step(rt: &impl Abort, alloc: Global, lookups: &mut Lookups, step: &Step) -> bool {
     let (call, key, question, check, _, _) = step;
-    let text = Text::from_slice(alloc, &[*key])?;
+    let text = Text::from_slice(alloc, &[*key]).expect(rt, "memory");
     if *call == b'a' {
-        return Ok(answers(lookups, &text, *question, *check));
+        return answers(lookups, &text, *question, *check);
     }
     match call {
-        b'o' => open(alloc, lookups, text, *question, *check)?,
-        b'j' => join(lookups, &text, *check)?,
+        b'o' => open(rt, alloc, lookups, text, *question, *check),
+        b'j' => join(rt, lookups, &text, *check),
         _ => lookups.leave(CheckNo(u64::from(*check))),
     }
-    Ok(true)
+    true
 }
 
 /// Makes a step, and ends the process where it does not go as it should.
-fn check_step(
-    rt: &impl Abort,
-    alloc: Global,
-    lookups: &mut Lookups,
-    step: &Step,
-) -> Result<(), Fail> {
+fn check_step(rt: &impl Abort, alloc: Global, lookups: &mut Lookups, step: &Step) {
     let call = step.0 as char;
-    assert!(rt; run_step(alloc, lookups, step)?, "{call}");
+    assert!(rt; run_step(rt, alloc, lookups, step), "{call}");
     assert!(rt; is_as(lookups, 1, b'k', &step.4), "question 1 after {call}");
     assert!(rt; is_as(lookups, 2, b'm', &step.5), "question 2 after {call}");
-    Ok(())
 }
 
 #[test]
-fn exactly_those_wait_that_came_and_did_not_leave(rt: HostRuntime) -> Result<(), Fail> {
+fn exactly_those_wait_that_came_and_did_not_leave(rt: HostRuntime) {
     let mut lookups = Lookups::new(rt.alloc());
     for step in &STEPS {
-        check_step(&rt, rt.alloc(), &mut lookups, step)?;
+        check_step(&rt, rt.alloc(), &mut lookups, step);
     }
     assert!(rt; lookups.answered(QuestionNo(3)).is_none());
-    Ok(())
 }

@@ -1,7 +1,6 @@
 //! A class with its part, whose questions are counted, and its calls as texts.
 ghost use Rattle.std.specs.Prelude.{◌≡◌};
 
-use crate::fixtures::{said, said_of};
 use sq_base::{
     Cause, CheckNo, Copying, Moment, ProcNo, QuestionNo, Reply, Text, Texts, What, Word,
 };
@@ -13,6 +12,7 @@ use sq_model_rows::{StepEffect, Stepped};
 use sq_rules::{Class, Token, Tokens};
 use std::alloc::Global;
 use std::marker::Model;
+use std::process::Abort;
 use std::test::Fail;
 
 /// A class with its part, and how many questions were put.
@@ -37,11 +37,12 @@ impl Model for Run {
 
 /// A class of one process at most, with one question at a time; its answers are fresh for ten seconds, and their
 /// refresh is due after five.
-fn class(alloc: Global) -> Result<Class, Fail> {
+fn class(rt: &impl Abort, alloc: Global) -> Class {
+    let name = Text::from_slice(alloc, b"v").expect(rt, "memory");
     let mut format = Tokens::new(alloc);
-    format.push(Token::Arguments)?;
-    Ok(Class {
-        name: Text::from_slice(alloc, b"v")?,
+    format.push(Token::Arguments).expect(rt, "memory");
+    Class {
+        name,
         ttl: 10,
         negative_ttl: 10,
         grace: 50,
@@ -52,7 +53,17 @@ fn class(alloc: Global) -> Result<Class, Fail> {
         queue_size: 0,
         format,
         words: Texts::new(alloc),
-    })
+    }
+}
+
+/// A text of this word.
+fn said(alloc: Global, word: &str) -> Result<String, Fail> {
+    Ok(format!(in alloc; "{word}")?)
+}
+
+/// A text of this word and this number.
+fn said_of(alloc: Global, word: &str, number: u64) -> Result<String, Fail> {
+    Ok(format!(in alloc; "{word} {number}")?)
 }
 
 /// What a step says that takes an answer.
@@ -111,14 +122,14 @@ fn what_of(reply: Reply) -> What {
 }
 
 impl Run {
-    pub fn new(alloc: Global) -> Result<Run, Fail> {
-        let class = class(alloc)?;
-        let part = Part::new(alloc, &class, HashSeed::fixed())?;
-        Ok(Run {
+    pub fn new(rt: &impl Abort, alloc: Global) -> Run {
+        let class = class(rt, alloc);
+        let part = Part::new(alloc, &class, HashSeed::fixed()).expect(rt, "memory");
+        Run {
             class,
             part,
             count: 0,
-        })
+        }
     }
 
     pub fn step(

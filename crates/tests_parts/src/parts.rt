@@ -76,6 +76,6 @@ fn check(rt: &impl Abort, alloc: Global, run: &mut Run) -> Result<(), Fail> {
 
 #[test]
 fn a_class_goes_by_its_rules(rt: HostRuntime) -> Result<(), Fail> {
-    let mut run = Run::new(rt.alloc())?;
+    let mut run = Run::new(&rt, rt.alloc());
     check(&rt, rt.alloc(), &mut run)
 }

@@ -9,7 +9,6 @@ use sq_rules::{Config, Limit, Limits, PoolParts};
 use std::alloc::Global;
 use std::process::Abort;
 use std::sync::Arc;
-use std::test::Fail;
 
 /// Configurations by their names: `delay_initial_bucket_level`, and the pairs of pool 1, as many as its class says; pool 2 is
 /// another like it. No rule allows anybody, which is for `delay_access` to say: a seat is given in the pool that is named.
@@ -244,57 +243,57 @@ an epoch above the newest is the newest from then on
 2000 grant 2 1000 => 100";
 
 /// The level and the pairs of the configuration of a name.
-fn stated(name: &str) -> Result<(&'static str, &'static str), Fail> {
+fn stated(rt: &impl Abort, name: &str) -> (&'static str, &'static str) {
     for row in CONFIGS.lines() {
-        let (found, stated) = row.split_once(' ').ok_or("no level")?;
+        let (found, stated) = row.split_once(' ').expect(rt, "a level");
         if found == name {
-            let stated = stated.split_once(' ').ok_or("no pairs")?;
-            return Ok(stated);
+            return stated.split_once(' ').expect(rt, "pairs");
         }
     }
-    Err(Fail::new("no such configuration"))
+    rt.panic("no such configuration")
 }
 
 /// The limit of a pair.
-fn limit_of(pair: &str) -> Result<Option<Limit>, Fail> {
+fn limit_of(rt: &impl Abort, pair: &str) -> Option<Limit> {
     if pair == "none" {
-        return Ok(None);
+        return None;
     }
-    let (restore, max) = pair.split_once('/').ok_or("no pair")?;
-    let restore = amount(restore)?;
-    let max = amount(max)?;
+    let (restore, max) = pair.split_once('/').expect(rt, "a pair");
+    let restore = amount(rt, restore);
+    let max = amount(rt, max);
     if restore > MOST || max > MOST {
-        return Err(Fail::new("too great a number"));
+        rt.panic("too great a number");
     }
-    Ok(Some(Limit { restore, max }))
+    Some(Limit { restore, max })
 }
 
 /// Adds the limits of pairs; how many they are.
-fn add_limits(limits: &mut Limits, pairs: &str) -> Result<u8, Fail> {
+fn add_limits(rt: &impl Abort, limits: &mut Limits, pairs: &str) -> u8 {
     let mut class: u8 = 0;
     for pair in pairs.split(' ') {
-        limits.push(limit_of(pair)?)?;
+        limits.push(limit_of(rt, pair)).expect(rt, "memory");
         class = class.saturating_add(1);
     }
-    Ok(class)
+    class
 }
 
 /// Adds a pool with these pairs.
-fn add_pool(alloc: Global, pools: &mut PoolParts, pairs: &str) -> Result<(), Fail> {
+fn add_pool(rt: &impl Abort, alloc: Global, pools: &mut PoolParts, pairs: &str) {
     let mut limits = Limits::new(alloc);
-    let class = add_limits(&mut limits, pairs)?;
-    pools.push(pool_of(alloc, class, limits))?;
-    Ok(())
+    let class = add_limits(rt, &mut limits, pairs);
+    pools
+        .push(pool_of(alloc, class, limits))
+        .expect(rt, "memory");
 }
 
 /// The configuration of a name.
-fn config(alloc: Global, name: &str) -> Result<Arc<Config>, Fail> {
-    let (level, pairs) = stated(name)?;
-    let level: u8 = level.parse()?;
+fn config(rt: &impl Abort, alloc: Global, name: &str) -> Arc<Config> {
+    let (level, pairs) = stated(rt, name);
+    let level: u8 = level.parse().expect(rt, "a level");
     let mut pools = PoolParts::new(alloc);
-    add_pool(alloc, &mut pools, pairs)?;
-    add_pool(alloc, &mut pools, pairs)?;
-    config_of(alloc, pools, level)
+    add_pool(rt, alloc, &mut pools, pairs);
+    add_pool(rt, alloc, &mut pools, pairs);
+    config_of(rt, alloc, pools, level)
 }
 
 /// Whether a pool is there, takes the client, and has buckets by addresses.
@@ -308,24 +307,25 @@ fn takes(config: &Config, pool: u32, addr: Addr) -> bool
 }
 
 /// The address of a client by its number, which stands behind `v6:` for IPv6.
-fn addr_of(word: &str) -> Result<Addr, Fail> {
+fn addr_of(rt: &impl Abort, word: &str) -> Addr {
     match word.strip_prefix("v6:") {
         Some(word) => {
-            let number: u128 = word.parse()?;
-            Ok(Addr { v6: true, number })
+            let number: u128 = word.parse().expect(rt, "a number");
+            Addr { v6: true, number }
         }
         None => {
-            let number: u32 = word.parse()?;
-            Ok(Addr {
+            let number: u32 = word.parse().expect(rt, "a number");
+            Addr {
                 v6: false,
                 number: u128::from(number),
-            })
+            }
         }
     }
 }
 
 /// A seat for a client.
 fn seat(
+    rt: &impl Abort,
     alloc: Global,
     pools: &mut Pools,
     epoch: EpochNo,
@@ -333,145 +333,156 @@ fn seat(
     pool: u32,
     addr: Addr,
     now: Moment,
-) -> Result<Seat, Fail> {
-    let config = config(alloc, name)?;
+) -> Seat {
+    let config = config(rt, alloc, name);
     if !takes(&config, pool, addr) {
-        return Err(Fail::new("no such pool"));
+        rt.panic("no such pool");
     }
-    Ok(pools.choose(alloc, epoch, &config, pool, addr, now)?)
+    pools
+        .choose(alloc, epoch, &config, pool, addr, now)
+        .expect(rt, "a seat")
 }
 
 /// The number of a seat for a client, which is kept.
 fn choose(
+    rt: &impl Abort,
     alloc: Global,
     pools: &mut Pools,
     seats: &mut Vec<Option<Seat>>,
     now: Moment,
     words: &str,
-) -> Result<String, Fail> {
-    let (epoch, words) = words.split_once(' ').ok_or("no configuration")?;
-    let (name, words) = words.split_once(' ').ok_or("no pool")?;
-    let (pool, addr) = words.split_once(' ').ok_or("no client")?;
-    let epoch = EpochNo(number(epoch)?);
-    let pool = number(pool)? as u32;
-    let seat = seat(alloc, pools, epoch, name, pool, addr_of(addr)?, now)?;
+) -> String {
+    let (epoch, words) = words.split_once(' ').expect(rt, "a configuration");
+    let (name, words) = words.split_once(' ').expect(rt, "a pool");
+    let (pool, addr) = words.split_once(' ').expect(rt, "a client");
+    let epoch = EpochNo(number(rt, epoch));
+    let pool = number(rt, pool) as u32;
+    let addr = addr_of(rt, addr);
+    let seat = seat(rt, alloc, pools, epoch, name, pool, addr, now);
     let number = seat.number().0;
-    seats.push(Some(seat))?;
-    count(alloc, number)
+    seats.push(Some(seat)).expect(rt, "memory");
+    count(rt, alloc, number)
 }
 
 /// The seat at a place.
-fn seat_at<'a>(seats: &'a [Option<Seat>], place: &str) -> Result<&'a Seat, Fail> {
-    match seats.get(number(place)? as usize) {
-        Some(Some(seat)) => Ok(seat),
-        _ => Err(Fail::new("no such seat")),
+fn seat_at<'a>(rt: &impl Abort, seats: &'a [Option<Seat>], place: &str) -> &'a Seat {
+    match seats.get(number(rt, place) as usize) {
+        Some(Some(seat)) => seat,
+        _ => rt.panic("no such seat"),
     }
 }
 
-fn renew(alloc: Global, pools: &mut Pools, now: Moment, words: &str) -> Result<String, Fail> {
-    let (epoch, name) = words.split_once(' ').ok_or("no configuration")?;
-    let epoch = EpochNo(number(epoch)?);
-    let config = config(alloc, name)?;
-    pools.renew(alloc, epoch, &config, now)?;
-    said(alloc, "done")
+fn renew(rt: &impl Abort, alloc: Global, pools: &mut Pools, now: Moment, words: &str) -> String {
+    let (epoch, name) = words.split_once(' ').expect(rt, "a configuration");
+    let epoch = EpochNo(number(rt, epoch));
+    let config = config(rt, alloc, name);
+    pools.renew(alloc, epoch, &config, now).expect(rt, "memory");
+    said(rt, alloc, "done")
 }
 
 fn grant(
+    rt: &impl Abort,
     alloc: Global,
     pools: &mut Pools,
     seats: &[Option<Seat>],
     now: Moment,
     words: &str,
-) -> Result<String, Fail> {
-    let (place, wanted) = words.split_once(' ').ok_or("no amount")?;
-    let granted = pools.grant(seat_at(seats, place)?, amount(wanted)?, now);
-    count(alloc, granted)
+) -> String {
+    let (place, wanted) = words.split_once(' ').expect(rt, "an amount");
+    let granted = pools.grant(seat_at(rt, seats, place), amount(rt, wanted), now);
+    count(rt, alloc, granted)
 }
 
 /// Gives up the seat at a place.
 fn leave(
+    rt: &impl Abort,
     alloc: Global,
     pools: &mut Pools,
     seats: &mut Vec<Option<Seat>>,
     place: &str,
-) -> Result<String, Fail> {
-    let Some(slot) = seats.get_mut(number(place)? as usize) else {
-        return Err(Fail::new("no such seat"));
+) -> String {
+    let Some(slot) = seats.get_mut(number(rt, place) as usize) else {
+        rt.panic("no such seat")
     };
     if let Some(seat) = slot.take() {
         pools.leave(seat);
     }
-    said(alloc, "done")
+    said(rt, alloc, "done")
 }
 
 fn numbers(
+    rt: &impl Abort,
     alloc: Global,
     pools: &Pools,
     seats: &[Option<Seat>],
     words: &str,
-) -> Result<String, Fail> {
-    let (place, i) = words.split_once(' ').ok_or("no bucket")?;
-    let i = number(i)? as u32;
-    bucket_shown(alloc, pools.bucket(seat_at(seats, place)?, i))
+) -> String {
+    let (place, i) = words.split_once(' ').expect(rt, "a bucket");
+    let i = number(rt, i) as u32;
+    bucket_shown(rt, alloc, pools.bucket(seat_at(rt, seats, place), i))
 }
 
 /// What a call comes to.
 fn answer(
+    rt: &impl Abort,
     alloc: Global,
     pools: &mut Pools,
     seats: &mut Vec<Option<Seat>>,
     other: &Seat,
     now: Moment,
     call: &str,
-) -> Result<String, Fail> {
-    let (name, words) = call.split_once(' ').ok_or("no words")?;
+) -> String {
+    let (name, words) = call.split_once(' ').expect(rt, "words");
     match name {
-        "renew" => renew(alloc, pools, now, words),
-        "choose" => choose(alloc, pools, seats, now, words),
-        "grant" => grant(alloc, pools, seats.as_slice(), now, words),
-        "other" => count(alloc, pools.grant(other, amount(words)?, now)),
-        "leave" => leave(alloc, pools, seats, words),
-        "numbers" => numbers(alloc, pools, seats.as_slice(), words),
-        _ => Err(Fail::new("no call")),
+        "renew" => renew(rt, alloc, pools, now, words),
+        "choose" => choose(rt, alloc, pools, seats, now, words),
+        "grant" => grant(rt, alloc, pools, seats.as_slice(), now, words),
+        "other" => count(rt, alloc, pools.grant(other, amount(rt, words), now)),
+        "leave" => leave(rt, alloc, pools, seats, words),
+        "numbers" => numbers(rt, alloc, pools, seats.as_slice(), words),
+        _ => rt.panic("no call"),
     }
 }
 
 /// Seat 1 of other pools.
-fn other_seat(alloc: Global) -> Result<Seat, Fail> {
+fn other_seat(rt: &impl Abort, alloc: Global) -> Seat {
     let addr = Addr {
         v6: false,
         number: 1,
     };
-    let mut others = pools_of(alloc, Moment(0), "plain")?;
-    seat(alloc, &mut others, EpochNo(1), "plain", 0, addr, Moment(0))
+    let mut others = pools_of(rt, alloc, Moment(0), "plain");
+    seat(
+        rt,
+        alloc,
+        &mut others,
+        EpochNo(1),
+        "plain",
+        0,
+        addr,
+        Moment(0),
+    )
 }
 
 /// The pools of epoch 1, made at this moment with the configuration of a name.
-fn pools_of(alloc: Global, made: Moment, name: &str) -> Result<Pools, Fail> {
-    let config = config(alloc, name)?;
-    Ok(Pools::new(alloc, EpochNo(1), &config, made)?)
+fn pools_of(rt: &impl Abort, alloc: Global, made: Moment, name: &str) -> Pools {
+    let config = config(rt, alloc, name);
+    Pools::new(alloc, EpochNo(1), &config, made).expect(rt, "memory")
 }
 
-/// Makes the calls in turn, and ends the process where one comes to something else.
-fn check_calls(
+/// Makes the call of a row, and ends the process where it comes to something else.
+fn check_call(
     rt: &impl Abort,
     alloc: Global,
     pools: &mut Pools,
     seats: &mut Vec<Option<Seat>>,
     other: &Seat,
     why: &str,
-    rows: &str,
-) -> Result<(), Fail> {
-    for row in rows.lines() {
-        if row.starts_with('#') {
-            continue;
-        }
-        let (call, wanted) = row.split_once(" => ").ok_or("no outcome")?;
-        let (now, call) = call.split_once(' ').ok_or("no call")?;
-        let came = answer(alloc, pools, seats, other, moment(now)?, call)?;
-        assert!(rt; came.as_str() == wanted, "{why}: {row}");
-    }
-    Ok(())
+    row: &str,
+) {
+    let (call, wanted) = row.split_once(" => ").expect(rt, "an outcome");
+    let (now, call) = call.split_once(' ').expect(rt, "a call");
+    let came = answer(rt, alloc, pools, seats, other, moment(rt, now), call);
+    assert!(rt; came.as_str() == wanted, "{why}: {row}");
 }
 
 /// Makes the calls of a run over pools, and ends the process where all grants have another sum.
@@ -483,29 +494,31 @@ fn check(
     why: &str,
     sum: u128,
     rows: &str,
-) -> Result<(), Fail> {
+) {
     let mut seats = Vec::new(alloc);
-    check_calls(rt, alloc, pools, &mut seats, other, why, rows)?;
+    for row in rows.lines() {
+        if !row.starts_with('#') {
+            check_call(rt, alloc, pools, &mut seats, other, why, row);
+        }
+    }
     assert!(rt; pools.granted() == sum, "{why}");
-    Ok(())
 }
 
 /// Makes a run.
-fn check_run(rt: &impl Abort, alloc: Global, other: &Seat, run: &str) -> Result<(), Fail> {
-    let (why, run) = run.split_once('\n').ok_or("no pools")?;
-    let (made, rows) = run.split_once('\n').ok_or("no calls")?;
-    let (now, made) = made.split_once(' ').ok_or("no configuration")?;
-    let (name, sum) = made.split_once(' ').ok_or("no sum")?;
-    let sum: u128 = sum.parse()?;
-    let mut pools = pools_of(alloc, moment(now)?, name)?;
-    check(rt, alloc, &mut pools, other, why, sum, rows)
+fn check_run(rt: &impl Abort, alloc: Global, other: &Seat, run: &str) {
+    let (why, run) = run.split_once('\n').expect(rt, "pools");
+    let (made, rows) = run.split_once('\n').expect(rt, "calls");
+    let (now, made) = made.split_once(' ').expect(rt, "a configuration");
+    let (name, sum) = made.split_once(' ').expect(rt, "a sum");
+    let sum: u128 = sum.parse().expect(rt, "a sum");
+    let mut pools = pools_of(rt, alloc, moment(rt, now), name);
+    check(rt, alloc, &mut pools, other, why, sum, rows);
 }
 
 #[test]
-fn seats_are_granted_what_their_buckets_hold(rt: HostRuntime) -> Result<(), Fail> {
-    let other = other_seat(rt.alloc())?;
+fn seats_are_granted_what_their_buckets_hold(rt: HostRuntime) {
+    let other = other_seat(&rt, rt.alloc());
     for run in RUNS.split("\n\n") {
-        check_run(&rt, rt.alloc(), &other, run)?;
+        check_run(&rt, rt.alloc(), &other, run);
     }
-    Ok(())
 }

@@ -7,7 +7,6 @@ use sq_request::make_request;
 use sq_rewrite::{Got, RewriteAct, RewriteFault, Rewriter, Rewriting, rewriting_of};
 use std::alloc::Global;
 use std::process::Abort;
-use std::test::Fail;
 
 /// `METHOD TARGET > REPLY => WHAT`: what a reply makes of the request of this method and target, of HTTP/1.0 and with the
 /// field `A: b` (configuration reference, `url_rewrite_program`). A new request is shown with the place that it goes to, its
@@ -158,154 +157,170 @@ fn client() -> Addr {
     }
 }
 
-fn field(alloc: Global) -> Result<Field, Fail> {
-    let name = Text::from_slice(alloc, b"A")?;
-    let value = Text::from_slice(alloc, b"b")?;
-    Ok(Field { name, value })
+fn field(rt: &impl Abort, alloc: Global) -> Field {
+    let name = Text::from_slice(alloc, b"A").expect(rt, "memory");
+    let value = Text::from_slice(alloc, b"b").expect(rt, "memory");
+    Field { name, value }
 }
 
-fn fields(alloc: Global) -> Result<Fields, Fail> {
+fn fields(rt: &impl Abort, alloc: Global) -> Fields {
     let mut fields = Vec::new(alloc);
-    fields.push(field(alloc)?)?;
-    Ok(Fields::from_vec(fields))
+    fields.push(field(rt, alloc)).expect(rt, "memory");
+    Fields::from_vec(fields)
 }
 
-fn request(alloc: Global, method: &str, target: &str) -> Result<Request, Fail> {
-    let fields = fields(alloc)?;
-    Ok(make_request(alloc, method.as_bytes(), target.as_bytes(), 0, fields)?)
+fn request(rt: &impl Abort, alloc: Global, method: &str, target: &str) -> Request {
+    let fields = fields(rt, alloc);
+    let (method, target) = (method.as_bytes(), target.as_bytes());
+    make_request(alloc, method, target, 0, fields).expect(rt, "a request")
 }
 
-fn add_field(text: &mut String, field: &Field) -> Result<(), Fail> {
-    text.push_str(str::from_utf8(field.name.as_bytes())?)?;
-    text.push(':')?;
-    text.push_str(str::from_utf8(field.value.as_bytes())?)?;
-    Ok(())
+fn add(rt: &impl Abort, text: &mut String, bytes: &[u8]) {
+    let word = str::from_utf8(bytes).expect(rt, "a text");
+    text.push_str(word).expect(rt, "memory");
+}
+
+fn add_field(rt: &impl Abort, text: &mut String, field: &Field) {
+    add(rt, text, field.name.as_bytes());
+    text.push(':').expect(rt, "memory");
+    add(rt, text, field.value.as_bytes());
 }
 
 /// The fields of a request.
-fn fields_shown(alloc: Global, request: &Request) -> Result<String, Fail> {
+fn fields_shown(rt: &impl Abort, alloc: Global, request: &Request) -> String {
     let mut text = String::new(alloc);
     for field in request.fields.as_slice() {
-        add_field(&mut text, field)?;
+        add_field(rt, &mut text, field);
     }
-    Ok(text)
+    text
 }
 
-fn request_shown(alloc: Global, r: &Request) -> Result<String, Fail> {
-    let fields = fields_shown(alloc, r)?;
-    Ok(format!(in alloc;
+fn request_shown(rt: &impl Abort, alloc: Global, r: &Request) -> String {
+    let fields = fields_shown(rt, alloc, r);
+    format!(in alloc;
         "new {} {} to {} {} {} {} {fields}",
         r.method, r.target, r.host, r.port, r.path, r.minor
-    )?)
+    )
+    .expect(rt, "memory")
 }
 
 /// What a request came to.
-fn shown(alloc: Global, rewriting: &Rewriting) -> Result<String, Fail> {
+fn shown(rt: &impl Abort, alloc: Global, rewriting: &Rewriting) -> String {
     match rewriting {
-        Rewriting::Same(None) => said(alloc, "same"),
-        Rewriting::Same(Some(cause)) => Ok(format!(in alloc; "same {cause:?}")?),
-        Rewriting::New(r) => request_shown(alloc, r),
-        Rewriting::Redirect(status, url) => Ok(format!(in alloc; "redirect {status} {url}")?),
+        Rewriting::Same(None) => said(rt, alloc, "same"),
+        Rewriting::Same(Some(cause)) => format!(in alloc; "same {cause:?}").expect(rt, "memory"),
+        Rewriting::New(r) => request_shown(rt, alloc, r),
+        Rewriting::Redirect(status, url) => {
+            format!(in alloc; "redirect {status} {url}").expect(rt, "memory")
+        }
     }
 }
 
 /// What a reply makes of a request.
-fn made(alloc: Global, request: &Request, line: &[u8]) -> Result<String, Fail> {
-    let (_, reply) = read_reply(alloc, line, false)?;
-    let rewriting = rewriting_of(alloc, &reply, request)?;
-    shown(alloc, &rewriting)
+fn made(rt: &impl Abort, alloc: Global, request: &Request, line: &[u8]) -> String {
+    let (_, reply) = read_reply(alloc, line, false).expect(rt, "a reply");
+    let rewriting = rewriting_of(alloc, &reply, request).expect(rt, "memory");
+    shown(rt, alloc, &rewriting)
 }
 
 /// What a reply makes of the request of this method and target.
-fn made_of(alloc: Global, method: &str, target: &str, line: &[u8]) -> Result<String, Fail> {
-    let request = request(alloc, method, target)?;
-    made(alloc, &request, line)
+fn made_of(rt: &impl Abort, alloc: Global, method: &str, target: &str, line: &[u8]) -> String {
+    let request = request(rt, alloc, method, target);
+    made(rt, alloc, &request, line)
+}
+
+fn check_reply(rt: &impl Abort, alloc: Global, row: &str) {
+    let (given, wanted) = row.split_once(" => ").expect(rt, "an outcome");
+    let (asked, line) = given.split_once(" > ").expect(rt, "a reply");
+    let (method, target) = asked.split_once(' ').expect(rt, "a target");
+    let made = made_of(rt, alloc, method, target, line.as_bytes());
+    assert!(rt; made.as_str() == wanted, "{row}");
 }
 
 #[test]
-fn replies_make_redirects_and_requests(rt: HostRuntime) -> Result<(), Fail> {
-    let alloc = rt.alloc();
+fn replies_make_redirects_and_requests(rt: HostRuntime) {
     for row in REPLIES.lines() {
-        let (given, wanted) = row.split_once(" => ").ok_or("no outcome")?;
-        let (asked, line) = given.split_once(" > ").ok_or("no reply")?;
-        let (method, target) = asked.split_once(' ').ok_or("no target")?;
-        let made = made_of(alloc, method, target, line.as_bytes())?;
-        assert!(rt; made.as_str() == wanted, "{row}");
+        check_reply(&rt, rt.alloc(), row);
     }
-    Ok(())
 }
 
 // Adds this byte between an `a` and a `b`: percent-encoded, or as it is between quotes.
-fn add_url(line: &mut Vec<u8>, byte: u8, is_quoted: bool) -> Result<(), Fail> {
+fn add_url(rt: &impl Abort, line: &mut Vec<u8>, byte: u8, is_quoted: bool) {
     let digits = b"0123456789ABCDEF";
     if is_quoted {
-        line.extend_from_slice(&[b'"', b'a', byte, b'b', b'"'])?;
+        let url = [b'"', b'a', byte, b'b', b'"'];
+        line.extend_from_slice(&url).expect(rt, "memory");
     } else {
         let high = digits[(byte / 16) as usize];
         let low = digits[(byte % 16) as usize];
-        line.extend_from_slice(&[b'a', b'%', high, low, b'b'])?;
+        let url = [b'a', b'%', high, low, b'b'];
+        line.extend_from_slice(&url).expect(rt, "memory");
     }
-    Ok(())
 }
 
 // What a request becomes by a reply with a `url` of this byte between an `a` and a `b`.
-fn made_with(alloc: Global, request: &Request, byte: u8, is_quoted: bool) -> Result<String, Fail> {
-    let mut line = Vec::from_slice(alloc, b"OK url=")?;
-    add_url(&mut line, byte, is_quoted)?;
-    made(alloc, request, line.as_slice())
+fn made_with(
+    rt: &impl Abort,
+    alloc: Global,
+    request: &Request,
+    byte: u8,
+    is_quoted: bool,
+) -> String {
+    let mut line = Vec::from_slice(alloc, b"OK url=").expect(rt, "memory");
+    add_url(rt, &mut line, byte, is_quoted);
+    made(rt, alloc, request, line.as_slice())
 }
 
 // Ends the process unless replies with a `url` of this byte make of a request what they should.
-fn check_byte(rt: &impl Abort, alloc: Global, request: &Request, byte: u8) -> Result<(), Fail> {
+fn check_byte(rt: &impl Abort, alloc: Global, request: &Request, byte: u8) {
     let is_visible = 0x21 <= byte && byte <= 0x7E;
     let wanted = if is_visible { "redirect 302 a" } else { "same" };
-    let came = made_with(alloc, request, byte, false)?;
+    let came = made_with(rt, alloc, request, byte, false);
     assert!(rt; came.starts_with(wanted), "{byte}: {came}");
     // These three stand in no line.
     let is_bare = byte != 0 && byte != b'\n' && byte != b'\r';
     if is_bare && !is_visible {
-        check_quoted(rt, alloc, request, byte)?;
+        check_quoted(rt, alloc, request, byte);
     }
-    Ok(())
 }
 
-fn check_quoted(rt: &impl Abort, alloc: Global, request: &Request, byte: u8) -> Result<(), Fail> {
-    let came = made_with(alloc, request, byte, true)?;
+fn check_quoted(rt: &impl Abort, alloc: Global, request: &Request, byte: u8) {
+    let came = made_with(rt, alloc, request, byte, true);
     assert!(rt; came.as_str() == "same", "{byte} in quotes: {came}");
-    Ok(())
 }
 
 #[test]
-fn a_url_with_a_forbidden_byte_is_no_redirect(rt: HostRuntime) -> Result<(), Fail> {
+fn a_url_with_a_forbidden_byte_is_no_redirect(rt: HostRuntime) {
     let alloc = rt.alloc();
-    let request = request(alloc, "GET", "http://a/")?;
+    let request = request(&rt, alloc, "GET", "http://a/");
     for byte in 0..=255u8 {
-        check_byte(&rt, alloc, &request, byte)?;
+        check_byte(&rt, alloc, &request, byte);
     }
-    Ok(())
 }
 
-fn refused(alloc: Global, fault: RewriteFault) -> Result<String, Fail> {
-    Ok(format!(in alloc; "{fault}")?)
+fn refused(rt: &impl Abort, alloc: Global, fault: RewriteFault) -> String {
+    format!(in alloc; "{fault}").expect(rt, "memory")
 }
 
 fn sent(
+    rt: &impl Abort,
     alloc: Global,
     proc: u64,
     question: u64,
     channel: Option<u32>,
     text: &Text,
-) -> Result<String, Fail> {
-    let text = str::from_utf8(text.as_bytes())?;
-    match channel {
-        None => Ok(format!(in alloc; "send {proc} {question} {text}")?),
-        Some(n) => Ok(format!(in alloc; "send {proc} {question} on {n} {text}")?),
-    }
+) -> String {
+    let text = str::from_utf8(text.as_bytes()).expect(rt, "a text");
+    let sent = match channel {
+        None => format!(in alloc; "send {proc} {question} {text}"),
+        Some(n) => format!(in alloc; "send {proc} {question} on {n} {text}"),
+    };
+    sent.expect(rt, "memory")
 }
 
-fn act(alloc: Global, rewriter: &mut Rewriter) -> Result<String, Fail> {
+fn act(rt: &impl Abort, alloc: Global, rewriter: &mut Rewriter) -> String {
     match rewriter.act() {
-        Some(RewriteAct::Stop(ProcNo(proc))) => said_of(alloc, "stop", proc),
+        Some(RewriteAct::Stop(ProcNo(proc))) => said_of(rt, alloc, "stop", proc),
         Some(
             RewriteAct::Send {
                 proc: ProcNo(proc),
@@ -313,100 +328,94 @@ fn act(alloc: Global, rewriter: &mut Rewriter) -> Result<String, Fail> {
                 channel,
                 text,
             },
-        ) => sent(alloc, proc, question, channel, &text),
-        Some(RewriteAct::Start) => said(alloc, "start"),
-        None => said(alloc, "none"),
+        ) => sent(rt, alloc, proc, question, channel, &text),
+        Some(RewriteAct::Start) => said(rt, alloc, "start"),
+        None => said(rt, alloc, "none"),
     }
 }
 
-fn ask(alloc: Global, rewriter: &mut Rewriter, target: &str) -> Result<String, Fail> {
-    let request = request(alloc, "GET", target)?;
+fn ask(rt: &impl Abort, alloc: Global, rewriter: &mut Rewriter, target: &str) -> String {
+    let request = request(rt, alloc, "GET", target);
     match rewriter.ask(alloc, &request, client()) {
-        Ok(QuestionNo(question)) => count(alloc, question),
-        Err(fault) => refused(alloc, fault),
+        Ok(QuestionNo(question)) => count(rt, alloc, question),
+        Err(fault) => refused(rt, alloc, fault),
     }
 }
 
-fn started(alloc: Global, rewriter: &mut Rewriter) -> Result<String, Fail> {
+fn started(rt: &impl Abort, alloc: Global, rewriter: &mut Rewriter) -> String {
     match rewriter.started(alloc) {
-        Ok(ProcNo(proc)) => count(alloc, proc),
-        Err(fault) => refused(alloc, fault),
+        Ok(ProcNo(proc)) => count(rt, alloc, proc),
+        Err(fault) => refused(rt, alloc, fault),
     }
 }
 
-fn done(alloc: Global, res: Result<(), RewriteFault>) -> Result<String, Fail> {
+fn done(rt: &impl Abort, alloc: Global, res: Result<(), RewriteFault>) -> String {
     match res {
-        Ok(()) => said(alloc, "ok"),
-        Err(fault) => refused(alloc, fault),
+        Ok(()) => said(rt, alloc, "ok"),
+        Err(fault) => refused(rt, alloc, fault),
     }
 }
 
-fn line(alloc: Global, rewriter: &mut Rewriter, words: &str) -> Result<String, Fail> {
-    let (proc, line) = words.split_once(' ').ok_or("no line")?;
-    let proc = ProcNo(number(proc)?);
+fn line(rt: &impl Abort, alloc: Global, rewriter: &mut Rewriter, words: &str) -> String {
+    let (proc, line) = words.split_once(' ').expect(rt, "a line");
+    let proc = ProcNo(number(rt, proc));
     match rewriter.line(alloc, proc, line.as_bytes()) {
-        Ok(Got::Reply(QuestionNo(question), _)) => said_of(alloc, "reply", question),
-        Ok(Got::Bad) => said(alloc, "bad"),
-        Ok(Got::Stray) => said(alloc, "stray"),
-        Err(fault) => refused(alloc, fault),
+        Ok(Got::Reply(QuestionNo(question), _)) => said_of(rt, alloc, "reply", question),
+        Ok(Got::Bad) => said(rt, alloc, "bad"),
+        Ok(Got::Stray) => said(rt, alloc, "stray"),
+        Err(fault) => refused(rt, alloc, fault),
     }
 }
 
-fn take(alloc: Global, rewriter: &mut Rewriter, question: QuestionNo) -> Result<String, Fail> {
+fn take(rt: &impl Abort, alloc: Global, rewriter: &mut Rewriter, question: QuestionNo) -> String {
     match rewriter.take(question) {
-        Ok(Some(rewriting)) => shown(alloc, &rewriting),
-        Ok(None) => said(alloc, "waits"),
-        Err(fault) => refused(alloc, fault),
+        Ok(Some(rewriting)) => shown(rt, alloc, &rewriting),
+        Ok(None) => said(rt, alloc, "waits"),
+        Err(fault) => refused(rt, alloc, fault),
     }
 }
 
 /// The answer of a call.
-fn answer(alloc: Global, rewriter: &mut Rewriter, call: &str) -> Result<String, Fail> {
+fn answer(rt: &impl Abort, alloc: Global, rewriter: &mut Rewriter, call: &str) -> String {
     match call {
-        "act" => act(alloc, rewriter),
-        "started" => started(alloc, rewriter),
-        "failed" => done(alloc, rewriter.start_failed()),
-        _ => answer_about(alloc, rewriter, call),
+        "act" => act(rt, alloc, rewriter),
+        "started" => started(rt, alloc, rewriter),
+        "failed" => done(rt, alloc, rewriter.start_failed()),
+        _ => answer_about(rt, alloc, rewriter, call),
     }
 }
 
 /// The answer of a call that has more words.
-fn answer_about(alloc: Global, rewriter: &mut Rewriter, call: &str) -> Result<String, Fail> {
-    let (name, words) = call.split_once(' ').ok_or("no words")?;
+fn answer_about(rt: &impl Abort, alloc: Global, rewriter: &mut Rewriter, call: &str) -> String {
+    let (name, words) = call.split_once(' ').expect(rt, "words");
     match name {
-        "ask" => ask(alloc, rewriter, words),
-        "line" => line(alloc, rewriter, words),
-        "died" => done(alloc, rewriter.died(ProcNo(number(words)?))),
-        "take" => take(alloc, rewriter, QuestionNo(number(words)?)),
-        _ => Err(Fail::new("no call")),
+        "ask" => ask(rt, alloc, rewriter, words),
+        "line" => line(rt, alloc, rewriter, words),
+        "died" => done(rt, alloc, rewriter.died(ProcNo(number(rt, words)))),
+        "take" => take(rt, alloc, rewriter, QuestionNo(number(rt, words))),
+        _ => rt.panic("no call"),
     }
 }
 
 // Ends the process unless a rewriter answers these calls so.
-fn check_calls(
-    rt: &impl Abort,
-    alloc: Global,
-    rewriter: &mut Rewriter,
-    calls: &str,
-) -> Result<(), Fail> {
+fn check_calls(rt: &impl Abort, alloc: Global, rewriter: &mut Rewriter, calls: &str) {
     for row in calls.lines() {
-        let (call, wanted) = row.split_once(" => ").ok_or("no answer")?;
-        let answer = answer(alloc, rewriter, call)?;
+        let (call, wanted) = row.split_once(" => ").expect(rt, "an answer");
+        let answer = answer(rt, alloc, rewriter, call);
         assert!(rt; answer.as_str() == wanted, "{row}");
     }
-    Ok(())
 }
 
 #[test]
-fn a_rewriter_answers_its_calls(rt: HostRuntime) -> Result<(), Fail> {
+fn a_rewriter_answers_its_calls(rt: HostRuntime) {
     let alloc = rt.alloc();
     let mut rewriter = Rewriter::new(alloc, &class(alloc, 2, 0, 1));
-    check_calls(&rt, alloc, &mut rewriter, CALLS)
+    check_calls(&rt, alloc, &mut rewriter, CALLS);
 }
 
 #[test]
-fn a_line_answers_on_its_channel(rt: HostRuntime) -> Result<(), Fail> {
+fn a_line_answers_on_its_channel(rt: HostRuntime) {
     let alloc = rt.alloc();
     let mut rewriter = Rewriter::new(alloc, &class(alloc, 1, 2, 1));
-    check_calls(&rt, alloc, &mut rewriter, CHANNELS)
+    check_calls(&rt, alloc, &mut rewriter, CHANNELS);
 }

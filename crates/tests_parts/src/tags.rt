@@ -9,7 +9,6 @@ use sq_rules::{Config, Limit, Limits, PoolParts};
 use std::alloc::Global;
 use std::process::Abort;
 use std::sync::Arc;
-use std::test::Fail;
 
 /// Moments, calls, and what they come to. A call names an epoch, a pool from 0, and a tag; a seat by its place among those
 /// that were given; how much is wanted; a bucket by its place. It comes to a seat's number, an amount, or a bucket's level and
@@ -52,23 +51,22 @@ static STEPS: &str = "0 choose 1 0 gold => 1
 /// The sum of what the steps grant.
 const SUM: u128 = 14995;
 
-fn config(alloc: Global) -> Result<Arc<Config>, Fail> {
+fn config(rt: &impl Abort, alloc: Global) -> Arc<Config> {
     let pair = Limit {
         restore: 100,
         max: 1000,
     };
     let mut pools = PoolParts::new(alloc);
-    add_pool(alloc, &mut pools, Some(pair))?;
-    add_pool(alloc, &mut pools, None)?;
-    config_of(alloc, pools, 50)
+    add_pool(rt, alloc, &mut pools, Some(pair));
+    add_pool(rt, alloc, &mut pools, None);
+    config_of(rt, alloc, pools, 50)
 }
 
 /// Adds a pool of class 5 with this pair.
-fn add_pool(alloc: Global, pools: &mut PoolParts, pair: Option<Limit>) -> Result<(), Fail> {
+fn add_pool(rt: &impl Abort, alloc: Global, pools: &mut PoolParts, pair: Option<Limit>) {
     let mut limits = Limits::new(alloc);
-    limits.push(pair)?;
-    pools.push(pool_of(alloc, 5, limits))?;
-    Ok(())
+    limits.push(pair).expect(rt, "memory");
+    pools.push(pool_of(alloc, 5, limits)).expect(rt, "memory");
 }
 
 /// Whether a pool is there and has buckets by tags.
@@ -83,141 +81,152 @@ fn takes(config: &Config, pool: u32) -> bool
 
 /// The number of a seat for a tag, which is kept.
 fn choose(
+    rt: &impl Abort,
     alloc: Global,
     pools: &mut TagPools,
     config: &Arc<Config>,
     seats: &mut Vec<Option<TagSeat>>,
     now: Moment,
     words: &str,
-) -> Result<String, Fail> {
-    let (epoch, words) = words.split_once(' ').ok_or("no pool")?;
-    let (pool, tag) = words.split_once(' ').ok_or("no tag")?;
-    let epoch = EpochNo(number(epoch)?);
-    let pool = number(pool)? as u32;
+) -> String {
+    let (epoch, words) = words.split_once(' ').expect(rt, "a pool");
+    let (pool, tag) = words.split_once(' ').expect(rt, "a tag");
+    let epoch = EpochNo(number(rt, epoch));
+    let pool = number(rt, pool) as u32;
     if !takes(config, pool) {
-        return Err(Fail::new("no such pool"));
+        rt.panic("no such pool");
     }
-    let tag = Text::from_slice(alloc, tag.as_bytes())?;
-    let seat = pools.choose(alloc, epoch, config, pool, &tag, now)?;
+    let tag = Text::from_slice(alloc, tag.as_bytes()).expect(rt, "memory");
+    let seat = pools
+        .choose(alloc, epoch, config, pool, &tag, now)
+        .expect(rt, "a seat");
     let number = seat.number().0;
-    seats.push(Some(seat))?;
-    count(alloc, number)
+    seats.push(Some(seat)).expect(rt, "memory");
+    count(rt, alloc, number)
 }
 
 /// The seat at a place.
-fn seat_at<'a>(seats: &'a [Option<TagSeat>], place: &str) -> Result<&'a TagSeat, Fail> {
-    match seats.get(number(place)? as usize) {
-        Some(Some(seat)) => Ok(seat),
-        _ => Err(Fail::new("no such seat")),
+fn seat_at<'a>(rt: &impl Abort, seats: &'a [Option<TagSeat>], place: &str) -> &'a TagSeat {
+    match seats.get(number(rt, place) as usize) {
+        Some(Some(seat)) => seat,
+        _ => rt.panic("no such seat"),
     }
 }
 
 fn renew(
+    rt: &impl Abort,
     alloc: Global,
     pools: &mut TagPools,
     config: &Arc<Config>,
     now: Moment,
     epoch: &str,
-) -> Result<String, Fail> {
-    pools.renew(alloc, EpochNo(number(epoch)?), config, now)?;
-    said(alloc, "done")
+) -> String {
+    let epoch = EpochNo(number(rt, epoch));
+    pools.renew(alloc, epoch, config, now).expect(rt, "memory");
+    said(rt, alloc, "done")
 }
 
 fn grant(
+    rt: &impl Abort,
     alloc: Global,
     pools: &mut TagPools,
     seats: &[Option<TagSeat>],
     now: Moment,
     words: &str,
-) -> Result<String, Fail> {
-    let (place, wanted) = words.split_once(' ').ok_or("no amount")?;
-    let granted = pools.grant(seat_at(seats, place)?, amount(wanted)?, now);
-    count(alloc, granted)
+) -> String {
+    let (place, wanted) = words.split_once(' ').expect(rt, "an amount");
+    let granted = pools.grant(seat_at(rt, seats, place), amount(rt, wanted), now);
+    count(rt, alloc, granted)
 }
 
 /// Gives up the seat at a place.
 fn leave(
+    rt: &impl Abort,
     alloc: Global,
     pools: &mut TagPools,
     seats: &mut Vec<Option<TagSeat>>,
     place: &str,
-) -> Result<String, Fail> {
-    let Some(slot) = seats.get_mut(number(place)? as usize) else {
-        return Err(Fail::new("no such seat"));
+) -> String {
+    let Some(slot) = seats.get_mut(number(rt, place) as usize) else {
+        rt.panic("no such seat")
     };
     if let Some(seat) = slot.take() {
         pools.leave(seat);
     }
-    said(alloc, "done")
+    said(rt, alloc, "done")
 }
 
 fn numbers(
+    rt: &impl Abort,
     alloc: Global,
     pools: &TagPools,
     seats: &[Option<TagSeat>],
     words: &str,
-) -> Result<String, Fail> {
-    let (place, i) = words.split_once(' ').ok_or("no bucket")?;
-    let i = number(i)? as u32;
-    bucket_shown(alloc, pools.bucket(seat_at(seats, place)?, i))
+) -> String {
+    let (place, i) = words.split_once(' ').expect(rt, "a bucket");
+    let i = number(rt, i) as u32;
+    bucket_shown(rt, alloc, pools.bucket(seat_at(rt, seats, place), i))
 }
 
-fn pass(alloc: Global, pools: &mut TagPools) -> Result<String, Fail> {
-    if !pools.pass() {
-        return Err(Fail::new("the numbers are used up"));
-    }
-    said(alloc, "done")
+fn pass(rt: &impl Abort, alloc: Global, pools: &mut TagPools) -> String {
+    assert!(rt; pools.pass(), "the numbers are used up");
+    said(rt, alloc, "done")
 }
 
 /// What a call comes to.
 fn answer(
+    rt: &impl Abort,
     alloc: Global,
     pools: &mut TagPools,
     config: &Arc<Config>,
     seats: &mut Vec<Option<TagSeat>>,
     now: Moment,
     call: &str,
-) -> Result<String, Fail> {
+) -> String {
     if call == "pass" {
-        return pass(alloc, pools);
+        return pass(rt, alloc, pools);
     }
-    let (name, words) = call.split_once(' ').ok_or("no words")?;
+    let (name, words) = call.split_once(' ').expect(rt, "words");
     match name {
-        "renew" => renew(alloc, pools, config, now, words),
-        "choose" => choose(alloc, pools, config, seats, now, words),
-        "grant" => grant(alloc, pools, seats.as_slice(), now, words),
-        "leave" => leave(alloc, pools, seats, words),
-        "numbers" => numbers(alloc, pools, seats.as_slice(), words),
-        _ => Err(Fail::new("no call")),
+        "renew" => renew(rt, alloc, pools, config, now, words),
+        "choose" => choose(rt, alloc, pools, config, seats, now, words),
+        "grant" => grant(rt, alloc, pools, seats.as_slice(), now, words),
+        "leave" => leave(rt, alloc, pools, seats, words),
+        "numbers" => numbers(rt, alloc, pools, seats.as_slice(), words),
+        _ => rt.panic("no call"),
     }
 }
 
-/// Makes the calls in turn, and ends the process where one comes to something else.
-fn check(
+/// Makes the call of a row, and ends the process where it comes to something else.
+fn check_call(
     rt: &impl Abort,
     alloc: Global,
     pools: &mut TagPools,
     config: &Arc<Config>,
     seats: &mut Vec<Option<TagSeat>>,
-) -> Result<(), Fail> {
+    row: &str,
+) {
+    let (call, wanted) = row.split_once(" => ").expect(rt, "an outcome");
+    let (now, call) = call.split_once(' ').expect(rt, "a call");
+    let came = answer(rt, alloc, pools, config, seats, moment(rt, now), call);
+    assert!(rt; came.as_str() == wanted, "{row}");
+}
+
+/// Makes the calls in turn, and ends the process where all grants have another sum.
+fn check(rt: &impl Abort, alloc: Global, pools: &mut TagPools, config: &Arc<Config>) {
+    let mut seats = Vec::new(alloc);
     for row in STEPS.lines() {
-        if row.starts_with('#') {
-            continue;
+        if !row.starts_with('#') {
+            check_call(rt, alloc, pools, config, &mut seats, row);
         }
-        let (call, wanted) = row.split_once(" => ").ok_or("no outcome")?;
-        let (now, call) = call.split_once(' ').ok_or("no call")?;
-        let came = answer(alloc, pools, config, seats, moment(now)?, call)?;
-        assert!(rt; came.as_str() == wanted, "{row}");
     }
     assert!(rt; pools.granted() == SUM);
-    Ok(())
 }
 
 #[test]
-fn seats_of_a_tag_are_granted_what_its_bucket_holds(rt: HostRuntime) -> Result<(), Fail> {
+fn seats_of_a_tag_are_granted_what_its_bucket_holds(rt: HostRuntime) {
     let alloc = rt.alloc();
-    let config = config(alloc)?;
-    let mut pools = TagPools::new(alloc, EpochNo(1), &config, Moment(0))?;
-    let mut seats = Vec::new(alloc);
-    check(&rt, alloc, &mut pools, &config, &mut seats)
+    let config = config(&rt, alloc);
+    let mut pools = TagPools::new(alloc, EpochNo(1), &config, Moment(0)).expect(&rt, "memory");
+    check(&rt, alloc, &mut pools, &config);
 }
