@@ -7,45 +7,46 @@ use sq_outside::{
 };
 use sq_system::{LinkTimes, RealClock, RealFiles, RealListener, RealSpawner};
 use std::alloc::Global;
-use std::test::Fail;
 use std::time::Duration;
 
 #[test]
-fn cat_answers_three_lines_and_is_closed(rt: HostRuntime) -> Result<(), Fail> {
+fn cat_answers_three_lines_and_is_closed(rt: HostRuntime) {
     let alloc = rt.alloc();
     let mut spawner = RealSpawner::new(rt, LinkTimes::of_server()).another();
-    let command = words(alloc, &[b"/bin/cat"])?;
-    let (mut said, mut to) = spawner.start(alloc, command.as_slice())?;
-    let mut held = Held::new(alloc, 512)?;
+    let command = words(alloc, &[b"/bin/cat"]).expect(&rt, "the words");
+    let (mut said, mut to) = spawner
+        .start(alloc, command.as_slice())
+        .expect(&rt, "a program");
+    let mut held = Held::new(alloc, 512).expect(&rt, "a line");
     let mut line = Vec::new(alloc);
     let lines: [&[u8]; 3] = [b"one", b"", b"a longer third line"];
     for &asked in &lines {
         let mut place = 0;
         assert!(rt; write_all(&mut to, asked).is_ok());
         assert!(rt; write_all(&mut to, b"\n").is_ok());
-        let found = next_line(&mut held, &mut said, &mut place, &mut line)?;
+        let found = next_line(&mut held, &mut said, &mut place, &mut line).expect(&rt, "a line");
         assert!(rt; matches!(found, LineFound::Whole));
         assert!(rt; line.as_slice() == asked);
     }
     to.close();
     let mut chunk = [0u8; 16];
-    assert!(rt; said.read(&mut chunk)? == 0);
+    assert!(rt; said.read(&mut chunk).expect(&rt, "a read") == 0);
     assert!(rt; write_all(&mut to, b"late\n").is_err());
-    Ok(())
 }
 
 #[test]
-fn a_program_that_ends_gives_the_end_and_takes_no_more(rt: HostRuntime) -> Result<(), Fail> {
+fn a_program_that_ends_gives_the_end_and_takes_no_more(rt: HostRuntime) {
     let alloc = rt.alloc();
     let mut spawner = RealSpawner::new(rt, LinkTimes::of_server());
-    let command = words(alloc, &[b"/bin/sh", b"-c", b"exit 0"])?;
-    let (mut said, mut to) = spawner.start(alloc, command.as_slice())?;
+    let command = words(alloc, &[b"/bin/sh", b"-c", b"exit 0"]).expect(&rt, "the words");
+    let (mut said, mut to) = spawner
+        .start(alloc, command.as_slice())
+        .expect(&rt, "a program");
     let mut chunk = [0u8; 16];
-    assert!(rt; said.read(&mut chunk)? == 0);
+    assert!(rt; said.read(&mut chunk).expect(&rt, "a read") == 0);
     // A write to a program that has gone raises no signal, which would end the test.
     assert!(rt; fails_to_write(&mut to, &mut RealClock::new(rt)));
     to.close();
-    Ok(())
 }
 
 /// The file in which Linux shows the process of this number.
@@ -57,17 +58,19 @@ fn process_file(alloc: Global, number: &[u8]) -> Result<Text, WantOfMemory> {
 }
 
 #[test]
-fn a_program_is_gone_when_its_output_was_let_go(rt: HostRuntime) -> Result<(), Fail> {
+fn a_program_is_gone_when_its_output_was_let_go(rt: HostRuntime) {
     let alloc = rt.alloc();
     let mut spawner = RealSpawner::new(rt, LinkTimes::of_server());
     let mut files = RealFiles::new(&rt);
-    let command = words(alloc, &[b"sh", b"-c", b"echo $$; exec cat"])?;
+    let command = words(alloc, &[b"sh", b"-c", b"echo $$; exec cat"]).expect(&rt, "the words");
     for closes in [true, false] {
-        let (mut said, mut to) = spawner.start(alloc, command.as_slice())?;
-        let mut held = Held::new(alloc, 64)?;
+        let (mut said, mut to) = spawner
+            .start(alloc, command.as_slice())
+            .expect(&rt, "a program");
+        let mut held = Held::new(alloc, 64).expect(&rt, "a line");
         let mut number = Vec::new(alloc);
-        next_line(&mut held, &mut said, &mut 0, &mut number)?;
-        let name = process_file(alloc, number.as_slice())?;
+        next_line(&mut held, &mut said, &mut 0, &mut number).expect(&rt, "a line");
+        let name = process_file(alloc, number.as_slice()).expect(&rt, "a name");
         assert!(rt; files.open(alloc, &name).is_ok(), "not there at {closes}");
         if closes {
             to.close();
@@ -79,7 +82,6 @@ fn a_program_is_gone_when_its_output_was_let_go(rt: HostRuntime) -> Result<(), F
         }
         assert!(rt; to.write(b"late\n").is_err());
     }
-    Ok(())
 }
 
 /// Ticks of 20 milliseconds. An answer may be owed for 300, and for 100 where the server was stopped as long ago.
@@ -116,7 +118,7 @@ fn asks<O: Sink>(to: &mut O, others: u32) -> bool {
 }
 
 #[test]
-fn a_program_that_owes_an_answer_is_stopped(rt: HostRuntime) -> Result<(), Fail> {
+fn a_program_that_owes_an_answer_is_stopped(rt: HostRuntime) {
     let alloc = rt.alloc();
     let mut spawner = RealSpawner::new(rt, short());
     let mut clock = RealClock::new(rt);
@@ -127,8 +129,10 @@ fn a_program_that_owes_an_answer_is_stopped(rt: HostRuntime) -> Result<(), Fail>
         b"while read -r n rest; do while sleep 0.01; do echo 2 OK; done; done",
     ];
     for script in scripts {
-        let command = words(alloc, &[b"sh", b"-c", script])?;
-        let (mut said, mut to) = spawner.start(alloc, command.as_slice())?;
+        let command = words(alloc, &[b"sh", b"-c", script]).expect(&rt, "the words");
+        let (mut said, mut to) = spawner
+            .start(alloc, command.as_slice())
+            .expect(&rt, "a program");
         let begun = clock.now();
         assert!(rt; asks(&mut to, 200));
         let time = clock.now().0.saturating_sub(begun.0);
@@ -137,45 +141,46 @@ fn a_program_that_owes_an_answer_is_stopped(rt: HostRuntime) -> Result<(), Fail>
         assert!(rt; (290..40_000).contains(&time), "after {time}");
         assert!(rt; write_all(&mut to, b"1 a\n").is_err());
     }
-    Ok(())
 }
 
 #[test]
-fn what_a_program_has_no_room_for_comes_later(rt: HostRuntime) -> Result<(), Fail> {
+fn what_a_program_has_no_room_for_comes_later(rt: HostRuntime) {
     let alloc = rt.alloc();
     let mut spawner = RealSpawner::new(rt, LinkTimes::of_server());
-    let command = words(alloc, &[b"sh", b"-c", b"sleep 0.2; exec cat"])?;
-    let (mut said, mut to) = spawner.start(alloc, command.as_slice())?;
+    let command = words(alloc, &[b"sh", b"-c", b"sleep 0.2; exec cat"]).expect(&rt, "the words");
+    let (mut said, mut to) = spawner
+        .start(alloc, command.as_slice())
+        .expect(&rt, "a program");
     assert!(rt; asks(&mut to, 200));
     let mut chunk = [0u8; 4096];
     let mut count = 0usize;
     for _ in 0..100_000 {
-        count = count.saturating_add(said.read(&mut chunk)?);
+        count = count.saturating_add(said.read(&mut chunk).expect(&rt, "a read"));
         if count >= 200_604 {
             break;
         }
     }
     assert!(rt; count == 200_604, "{count}");
-    Ok(())
 }
 
 #[test]
-fn programs_end_with_their_server(rt: HostRuntime) -> Result<(), Fail> {
+fn programs_end_with_their_server(rt: HostRuntime) {
     let alloc = rt.alloc();
     let times = LinkTimes {
         answer: Duration::from_secs(60),
         ..short()
     };
-    let net = RealListener::listen(alloc, rt, 0, times).or(Err("no port"))?;
+    let net = RealListener::listen(alloc, rt, 0, times).expect(&rt, "a port");
     let mut spawner = net.spawner;
     let mut clock = RealClock::new(rt);
-    let command = words(alloc, &[b"sh", b"-c", b"cat > /dev/null; true"])?;
-    let (mut said, mut to) = spawner.start(alloc, command.as_slice())?;
+    let command = words(alloc, &[b"sh", b"-c", b"cat > /dev/null; true"]).expect(&rt, "the words");
+    let (mut said, mut to) = spawner
+        .start(alloc, command.as_slice())
+        .expect(&rt, "a program");
     assert!(rt; asks(&mut to, 0));
     let begun = clock.now();
     net.stopper.stop();
     let time = ends_after(begun, &mut said, &mut clock);
     assert!(rt; (90..40_000).contains(&time), "after {time}");
     assert!(rt; spawner.start(alloc, command.as_slice()).is_err());
-    Ok(())
 }

@@ -1,7 +1,6 @@
 //! The spellings in which a host is reached, and those in which it is not: what a rule over addresses or names does not see is
 //! dialled by none. Which spellings the system takes for an address is from inet_aton(3).
 use sq_system::has_one_spelling;
-use std::test::Fail;
 
 const REACHED: &str =
     "127.0.0.1 0.0.0.0 10.1.2.3 192.0.2.255 255.255.255.255 169.254.169.254 1.2.3.4 ::1 :: 2001:db8::1 fe80::1 \
@@ -18,7 +17,7 @@ const REFUSED: &str =
     user@a a#b a?b a*b é.example";
 
 #[test]
-fn a_host_is_reached_in_one_spelling(rt: HostRuntime) -> Result<(), Fail> {
+fn a_host_is_reached_in_one_spelling(rt: HostRuntime) {
     for host in REACHED.split_ascii_whitespace() {
         assert!(rt; has_one_spelling(host), "{host:?} is reached");
     }
@@ -28,5 +27,4 @@ fn a_host_is_reached_in_one_spelling(rt: HostRuntime) -> Result<(), Fail> {
     assert!(rt;
         !has_one_spelling("") && !has_one_spelling(" ") && !has_one_spelling("127.0.0.1 a")
     );
-    Ok(())
 }

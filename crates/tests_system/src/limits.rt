@@ -4,7 +4,6 @@
 use crate::fixtures::{accepts, dials};
 use sq_outside::{Accepted, Clock, Dialer, Listener, Out, Sink, Source, Stopper};
 use sq_system::{LinkTimes, RealClock, RealDialer, RealListener};
-use std::test::Fail;
 use std::thread;
 use std::time::Duration;
 
@@ -41,15 +40,18 @@ fn fails_after<S: Source, C: Clock>(from: &mut S, clock: &mut C) -> u64 {
 }
 
 #[test]
-fn a_silent_link_fails_in_time(rt: HostRuntime) -> Result<(), Fail> {
+fn a_silent_link_fails_in_time(rt: HostRuntime) {
     let alloc = rt.alloc();
     let mut listener = RealListener::listen(alloc, rt, 0, silent())
-        .or(Err("no port"))?
+        .expect(&rt, "a port")
         .listener;
-    let port = listener.port().ok_or("no port")?;
+    let port = listener.port().expect(&rt, "a port");
     let mut dialer = RealDialer::new(rt, silent());
-    let (mut from, mut to) = dials(alloc, &mut dialer, b"127.0.0.1", port)?;
-    let other = accepts(alloc, &mut listener).ok_or("no link")?;
+    let (mut from, mut to) = dials(alloc, &mut dialer, b"127.0.0.1", port).expect(
+        &rt,
+        "not reached",
+    );
+    let other = accepts(alloc, &mut listener).expect(&rt, "a link");
     let time = fails_after(&mut from, &mut RealClock::new(rt));
     assert!(rt;
         from.has_failed() && (950..30_000).contains(&time),
@@ -66,23 +68,26 @@ fn a_silent_link_fails_in_time(rt: HostRuntime) -> Result<(), Fail> {
     }
     assert!(rt; fails && to.has_failed());
     drop(other);
-    Ok(())
 }
 
 #[test]
-fn what_is_written_keeps_the_half_that_is_read(rt: HostRuntime) -> Result<(), Fail> {
+fn what_is_written_keeps_the_half_that_is_read(rt: HostRuntime) {
     let alloc = rt.alloc();
     let mut listener = RealListener::listen(alloc, rt, 0, short())
-        .or(Err("no port"))?
+        .expect(&rt, "a port")
         .listener;
-    let port = listener.port().ok_or("no port")?;
+    let port = listener.port().expect(&rt, "a port");
     let mut dialer = RealDialer::new(rt, silent());
-    let (mut from, mut to) = dials(alloc, &mut dialer, b"127.0.0.1", port)?;
-    let mut other = accepts(alloc, &mut listener).ok_or("no link")?;
+    let (mut from, mut to) = dials(alloc, &mut dialer, b"127.0.0.1", port).expect(
+        &rt,
+        "not reached",
+    );
+    let mut other = accepts(alloc, &mut listener).expect(&rt, "a link");
     let reading = thread::spawn(&rt, move || {
         let mut chunk = [0u8; 16];
         from.read(&mut chunk)
-    })?;
+    })
+    .expect(&rt, "a thread");
     // Three seconds, three times as long as the link may be silent.
     let mut clock = RealClock::new(rt);
     for _ in 0..300 {
@@ -91,94 +96,99 @@ fn what_is_written_keeps_the_half_that_is_read(rt: HostRuntime) -> Result<(), Fa
     }
     assert!(rt; other.1.write(b"late").is_ok());
     assert!(rt; reading.join(&rt) == Ok(4));
-    Ok(())
 }
 
 #[test]
-fn a_link_gives_way_where_it_is_wanted(rt: HostRuntime) -> Result<(), Fail> {
+fn a_link_gives_way_where_it_is_wanted(rt: HostRuntime) {
     let alloc = rt.alloc();
-    let mut net = RealListener::listen(alloc, rt, 0, short()).or(Err("no port"))?;
-    let port = net.listener.port().ok_or("no port")?;
+    let mut net = RealListener::listen(alloc, rt, 0, short()).expect(&rt, "a port");
+    let port = net.listener.port().expect(&rt, "a port");
     let mut clock = RealClock::new(rt);
     let mut clients = RealDialer::new(rt, LinkTimes::of_server());
-    let first = dials(alloc, &mut clients, b"127.0.0.1", port)?;
-    let (mut from, to) = accepts(alloc, &mut net.listener).ok_or("no link")?;
+    let first = dials(alloc, &mut clients, b"127.0.0.1", port).expect(&rt, "a link");
+    let (mut from, to) = accepts(alloc, &mut net.listener).expect(&rt, "a link");
     let time = fails_after(&mut from, &mut clock);
     assert!(rt; (40..1900).contains(&time), "an idle one after {time}");
     drop((from, to));
     // From then on those that say nothing wait behind the one that does.
-    let second = dials(alloc, &mut clients, b"127.0.0.1", port)?;
-    let mut third = dials(alloc, &mut clients, b"127.0.0.1", port)?;
+    let second = dials(alloc, &mut clients, b"127.0.0.1", port).expect(&rt, "a link");
+    let mut third = dials(alloc, &mut clients, b"127.0.0.1", port).expect(&rt, "a link");
     assert!(rt; third.1.write(b"third").is_ok());
-    let (mut from, _to) = accepts(alloc, &mut net.listener).ok_or("no link")?;
+    let (mut from, _to) = accepts(alloc, &mut net.listener).expect(&rt, "a link");
     let mut chunk = [0u8; 16];
     assert!(rt; from.read(&mut chunk) == Ok(5));
     // A link for which its worker has dialled is no idle one.
-    let dialled = dials(alloc, &mut net.dialer, b"127.0.0.1", port)?;
+    let dialled = dials(alloc, &mut net.dialer, b"127.0.0.1", port).expect(&rt, "a link");
     let time = fails_after(&mut from, &mut clock);
     assert!(rt; (1900..30_000).contains(&time), "a busy one after {time}");
     net.dialer.give_back(dialled.0, dialled.1);
     drop((first, second));
-    Ok(())
 }
 
 #[test]
-fn a_link_stays_where_somebody_waits_for_the_next(rt: HostRuntime) -> Result<(), Fail> {
+fn a_link_stays_where_somebody_waits_for_the_next(rt: HostRuntime) {
     let alloc = rt.alloc();
     let mut listener = RealListener::listen(alloc, rt, 0, silent())
-        .or(Err("no port"))?
+        .expect(&rt, "a port")
         .listener;
-    let port = listener.port().ok_or("no port")?;
+    let port = listener.port().expect(&rt, "a port");
     let mut clients = RealDialer::new(rt, LinkTimes::of_server());
-    let client = dials(alloc, &mut clients, b"127.0.0.1", port)?;
-    let (mut from, _to) = accepts(alloc, &mut listener).ok_or("no link")?;
-    let waiting = thread::spawn(&rt, move || accepts(alloc, &mut listener).is_some())?;
+    let client = dials(alloc, &mut clients, b"127.0.0.1", port).expect(&rt, "a link");
+    let (mut from, _to) = accepts(alloc, &mut listener).expect(&rt, "a link");
+    let waiting = thread::spawn(&rt, move || accepts(alloc, &mut listener).is_some()).expect(
+        &rt,
+        "no thread",
+    );
     let time = fails_after(&mut from, &mut RealClock::new(rt));
     assert!(rt; (950..30_000).contains(&time), "after {time}");
-    let _next = dials(alloc, &mut clients, b"127.0.0.1", port)?;
+    let _next = dials(alloc, &mut clients, b"127.0.0.1", port).expect(&rt, "a link");
     assert!(rt; waiting.join(&rt));
     drop(client);
-    Ok(())
 }
 
 #[test]
-fn what_was_dialled_ends_with_its_client(rt: HostRuntime) -> Result<(), Fail> {
+fn what_was_dialled_ends_with_its_client(rt: HostRuntime) {
     let alloc = rt.alloc();
-    let mut net = RealListener::listen(alloc, rt, 0, short()).or(Err("no port"))?;
-    let port = net.listener.port().ok_or("no port")?;
+    let mut net = RealListener::listen(alloc, rt, 0, short()).expect(&rt, "a port");
+    let port = net.listener.port().expect(&rt, "a port");
     let origins = RealListener::listen(alloc, rt, 0, short())
-        .or(Err("no port"))?
+        .expect(&rt, "a port")
         .listener;
-    let theirs = origins.port().ok_or("no port")?;
+    let theirs = origins.port().expect(&rt, "a port");
     let mut clock = RealClock::new(rt);
     let mut clients = RealDialer::new(rt, LinkTimes::of_server());
-    let mut client = dials(alloc, &mut clients, b"127.0.0.1", port)?;
-    let (_from, mut to) = accepts(alloc, &mut net.listener).ok_or("no link")?;
+    let mut client = dials(alloc, &mut clients, b"127.0.0.1", port).expect(&rt, "a link");
+    let (_from, mut to) = accepts(alloc, &mut net.listener).expect(&rt, "a link");
     // One that only says nothing more is still served.
     client.1.close();
-    let (mut silent, out) = dials(alloc, &mut net.dialer, b"127.0.0.1", theirs)?;
+    let (mut silent, out) = dials(alloc, &mut net.dialer, b"127.0.0.1", theirs).expect(
+        &rt,
+        "not reached",
+    );
     let time = fails_after(&mut silent, &mut clock);
     assert!(rt; time >= 1900, "after {time}");
     net.dialer.give_back(silent, out);
     // A socket that is closed before all was read resets its link.
-    let (mut silent, _out) = dials(alloc, &mut net.dialer, b"127.0.0.1", theirs)?;
+    let (mut silent, _out) = dials(alloc, &mut net.dialer, b"127.0.0.1", theirs).expect(
+        &rt,
+        "not reached",
+    );
     assert!(rt; to.write(b"unread").is_ok());
     clock.pause();
     drop(client);
     let time = fails_after(&mut silent, &mut clock);
     assert!(rt; time < 1900, "after {time}");
-    Ok(())
 }
 
 #[test]
-fn links_end_with_their_server(rt: HostRuntime) -> Result<(), Fail> {
+fn links_end_with_their_server(rt: HostRuntime) {
     let alloc = rt.alloc();
-    let mut net = RealListener::listen(alloc, rt, 0, short()).or(Err("no port"))?;
-    let port = net.listener.port().ok_or("no port")?;
+    let mut net = RealListener::listen(alloc, rt, 0, short()).expect(&rt, "a port");
+    let port = net.listener.port().expect(&rt, "a port");
     let mut clock = RealClock::new(rt);
     let mut clients = RealDialer::new(rt, LinkTimes::of_server());
-    let _client = dials(alloc, &mut clients, b"127.0.0.1", port)?;
-    let (mut from, mut to) = accepts(alloc, &mut net.listener).ok_or("no link")?;
+    let _client = dials(alloc, &mut clients, b"127.0.0.1", port).expect(&rt, "a link");
+    let (mut from, mut to) = accepts(alloc, &mut net.listener).expect(&rt, "a link");
     let stopped = clock.now();
     net.stopper.stop();
     assert!(rt; matches!(net.listener.next(alloc), Accepted::Stopped));
@@ -195,5 +205,4 @@ fn links_end_with_their_server(rt: HostRuntime) -> Result<(), Fail> {
     }
     let time = clock.now().0.saturating_sub(stopped.0);
     assert!(rt; (2900..30_000).contains(&time), "a busy one after {time}");
-    Ok(())
 }

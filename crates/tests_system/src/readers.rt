@@ -5,7 +5,6 @@ use sq_outside::{Files, NoOpen, read_file, read_whole, write_all};
 use sq_system::{RealFiles, RealLines, RealSink, RealSource};
 use std::alloc::Global;
 use std::io::{self, ErrorKind, Read, Write};
-use std::test::Fail;
 
 // A reader and writer that is interrupted at each second call.
 #[derive(Drop)]
@@ -45,7 +44,7 @@ impl<T: Write> Write for Stutters<T> {
 }
 
 #[test]
-fn adapters_reach_what_stands_behind_them(rt: HostRuntime) -> Result<(), Fail> {
+fn adapters_reach_what_stands_behind_them(rt: HostRuntime) {
     let mut source = RealSource::new(Stutters {
         inner: b"hello".as_slice(),
         waits: false,
@@ -53,7 +52,7 @@ fn adapters_reach_what_stands_behind_them(rt: HostRuntime) -> Result<(), Fail> {
     let text = read_whole(rt.alloc(), 5, &mut source)
         .ok()
         .flatten()
-        .ok_or("the text")?;
+        .expect(&rt, "the text");
     assert!(rt; text.as_bytes() == b"hello".as_slice());
 
     let mut bytes = [0u8; 8];
@@ -63,7 +62,6 @@ fn adapters_reach_what_stands_behind_them(rt: HostRuntime) -> Result<(), Fail> {
     });
     assert!(rt; write_all(&mut sink, b"help me") == Ok(()));
     assert!(rt; &bytes == b"help me\0");
-    Ok(())
 }
 
 // A writer that ends what each call wrote with `|`.
@@ -102,20 +100,19 @@ impl<'a> Marks<'a> {
 }
 
 #[test]
-fn a_line_goes_out_with_its_end(rt: HostRuntime) -> Result<(), Fail> {
+fn a_line_goes_out_with_its_end(rt: HostRuntime) {
     let mut calls = [b'.'; 16];
     let marks = Marks {
         calls: calls.as_mut_slice(),
         count: 0,
     };
-    let mut sink = RealLines::new(rt.alloc(), marks)?;
+    let mut sink = RealLines::new(rt.alloc(), marks).expect(&rt, "a line");
     let wrote = write_all(&mut sink, b"1 1 act").is_ok() && write_all(&mut sink, b"\n").is_ok();
     let open = write_all(&mut sink, b"2").is_ok();
     let failed = write_all(&mut sink, b"2 1 act\n").is_err();
     drop(sink);
     assert!(rt; wrote && open && failed);
     assert!(rt; &calls == b"1 1 act\n|.......");
-    Ok(())
 }
 
 // Why a file is not read; none where it is.
@@ -132,19 +129,18 @@ fn unread<F: Files>(
 }
 
 #[test]
-fn files_of_the_system_are_opened_by_their_names(rt: HostRuntime) -> Result<(), Fail> {
+fn files_of_the_system_are_opened_by_their_names(rt: HostRuntime) {
     let alloc = rt.alloc();
     let mut files = RealFiles::new(&rt);
-    let missing = unread(alloc, &mut files, b"/dev/null.none")?;
-    let folder = unread(alloc, &mut files, b"/")?;
-    let unreadable = unread(alloc, &mut files, b"/dev/\xff")?;
+    let missing = unread(alloc, &mut files, b"/dev/null.none").expect(&rt, "a name");
+    let folder = unread(alloc, &mut files, b"/").expect(&rt, "a name");
+    let unreadable = unread(alloc, &mut files, b"/dev/\xff").expect(&rt, "a name");
     assert!(rt; missing == Some(NoOpen::Missing));
     assert!(rt; folder == Some(NoOpen::Failed) && unreadable == Some(NoOpen::Failed));
-    let empty = Text::from_slice(alloc, b"/dev/null")?;
+    let empty = Text::from_slice(alloc, b"/dev/null").expect(&rt, "a name");
     let text = read_file(alloc, 5, &empty, &mut files)
         .ok()
         .flatten()
-        .ok_or("no byte")?;
+        .expect(&rt, "no byte");
     assert!(rt; text.is_empty());
-    Ok(())
 }
