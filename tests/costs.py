@@ -2,22 +2,34 @@
 """What the gate costs, crate by crate.
 
     tests/costs.py run LOG COMMAND ..    runs the command, as `rt ci`, and writes to LOG what the prover's processes below it took
-    tests/costs.py table LOG [FILE]      prints the table of that; with FILE, puts it between its two comment lines `costs` there
+    tests/costs.py table LOG.. [--into FILE]
+                                         prints the table of that; with FILE, puts it between its two comment lines `costs` there
 
 The toolchain's own log has no times. So this looks at the processes twice a second: the time of a processor that each check took, with
 the processes that it began, and when it was first and last seen. A check is of a crate's proof, of its tests, or of an edit, which is tried in
-a folder of its own. `COSTS=LOG ./test` measures the gate. The numbers are those of a run from nothing, where nothing was kept."""
+a folder of its own. `COSTS=LOG ./test` measures the gate. The numbers are those of a run from nothing, where nothing was kept.
+A second of one machine is not one of another, and one of a processor that shares its core not one of a processor that has it alone:
+so it times, every half minute, how long counting to a million takes. Where a run was stopped and gone on with, as `rt ci` does
+with what it kept, all logs are given, in their order: what a later one has takes the place of what an earlier one had, and edits of
+crates that have none any more are left out."""
 
+import glob
 import json
+import math
 import os
 import re
 import subprocess
 import sys
+import textwrap
 import time
 
 TOP = os.path.dirname(os.path.dirname(os.path.abspath(__file__)))
 TICKS = os.sysconf("SC_CLK_TCK")
 KINDS = ("proof", "tests", "edits")
+# How often the log is written and the machine's speed is looked at, in seconds.
+EVERY = 30
+# The seconds that counting to a million takes where the processor has its core alone, on the machine on which this was first run.
+QUIET = 0.02
 
 
 def processes():
@@ -48,13 +60,34 @@ def check_of(pid):
     return words[words.index("--crate-name") + 1], kind
 
 
+def keep(log, now, status, checks, counts):
+    """Writes what is known so far, so that a run that is stopped is not lost."""
+    with open(f"{log}.new", "w", encoding="utf-8") as it:
+        json.dump({"seconds": round(now, 1), "status": status, "counts": [round(it, 4) for it in counts], "checks": [
+            {"crate": c["crate"], "kind": c["kind"], "first": round(c["first"], 1), "last": round(c["last"], 1), "seconds": round(c["ticks"] / TICKS, 1)}
+            for c in checks.values()]}, it, indent=0)
+    os.replace(f"{log}.new", log)
+
+
+def yardstick():
+    """The seconds of a processor that counting to a million takes just now: what a second on this machine is worth."""
+    begun = time.thread_time()
+    for _ in range(1_000_000):
+        pass
+    return time.thread_time() - begun
+
+
 def run(log, command):
     begun = time.time()
     ran = subprocess.Popen(command)
-    checks = {}
+    checks, counts, kept = {}, [], 0
     while ran.poll() is None:
         time.sleep(0.5)
         now = time.time() - begun
+        if now - kept >= EVERY:
+            kept = now
+            counts.append(yardstick())
+            keep(log, now, None, checks, counts)
         every = processes()
         # The check that a process belongs to: the uppermost one above it, below the command.
         of = {ran.pid: None}
@@ -83,10 +116,7 @@ def run(log, command):
             if crate:
                 check = checks.setdefault(f"{pid} {crate} {kind}", {"crate": crate, "kind": kind, "first": now, "ticks": 0})
                 check["ticks"], check["last"] = max(check["ticks"], took), now
-    with open(log, "w", encoding="utf-8") as it:
-        json.dump({"seconds": time.time() - begun, "status": ran.returncode, "checks": [
-            {"crate": c["crate"], "kind": c["kind"], "first": round(c["first"], 1), "last": round(c["last"], 1), "seconds": round(c["ticks"] / TICKS, 1)}
-            for c in checks.values()]}, it, indent=0)
+    keep(log, time.time() - begun, ran.returncode, checks, counts)
     return ran.returncode
 
 
@@ -101,40 +131,80 @@ def crates():
     return {name: [it for it in below if it in found] for name, below in found.items()}
 
 
-def table(log):
-    with open(log, encoding="utf-8") as it:
-        run_of = json.load(it)
-    below, took, ended, began = crates(), {}, {}, {}
-    for check in run_of["checks"]:
-        name, kind = check["crate"], check["kind"]
-        took.setdefault(name, dict.fromkeys(KINDS, 0))[kind] += check["seconds"]
-        if kind == "proof":
-            ended[name] = max(ended.get(name, 0), check["last"])
-            began[name] = min(began.get(name, check["first"]), check["first"])
-    rows, chain = [], {}
+def has_edits(name):
+    return bool(glob.glob(f"{TOP}/crates/{name}/must-fail/*.edit"))
 
-    def longest(name):
-        """The seconds of the longest chain of proofs up to this crate, and the crates in it."""
-        if name not in chain:
-            before = max((longest(it) for it in below[name]), default=(0, []))
-            chain[name] = before[0] + ended.get(name, 0) - began.get(name, 0), [*before[1], name]
-        return chain[name]
 
+class Costs:
+    """What the checks of some logs took, by crate and kind: the seconds of a processor, those of one on which counting to a million
+    takes `QUIET`, and when the crate's proof began and ended."""
+
+    def __init__(self, logs):
+        self.took, self.quiet, self.began, self.ended = {}, {}, {}, {}
+        self.counts, self.seconds, self.is_whole = [], 0, True
+        for log in logs:
+            with open(log, encoding="utf-8") as it:
+                self.add(json.load(it))
+
+    def add(self, run_of):
+        """A later run: what it checked takes the place of what an earlier one did."""
+        counts, seconds, fresh = run_of["counts"], run_of["seconds"], set()
+        for check in run_of["checks"]:
+            of = check["crate"], check["kind"]
+            if of[1] == "edits" and not has_edits(of[0]):
+                continue
+            if of not in fresh:
+                fresh.add(of)
+                self.took[of] = self.quiet[of] = 0
+                if of[1] == "proof":
+                    self.began[of[0]], self.ended[of[0]] = math.inf, 0
+            first, last = (min(int(check[it] / seconds * len(counts)), len(counts) - 1) for it in ("first", "last"))
+            meanwhile = counts[first : last + 1] or [QUIET]
+            self.took[of] += check["seconds"]
+            self.quiet[of] += check["seconds"] * QUIET * len(meanwhile) / sum(meanwhile)
+            if of[1] == "proof":
+                self.began[of[0]] = min(self.began[of[0]], self.seconds + check["first"])
+                self.ended[of[0]] = max(self.ended[of[0]], self.seconds + check["last"])
+        self.counts += counts
+        self.seconds += seconds
+        self.is_whole = run_of["status"] is not None
+
+    def chain(self, below):
+        """The seconds of the longest chain of proofs, and the crates in it."""
+        found = {}
+
+        def longest(name):
+            if name not in found:
+                before = max((longest(it) for it in below[name]), default=(0, []))
+                found[name] = before[0] + self.ended.get(name, 0) - self.began.get(name, 0), [*before[1], name]
+            return found[name]
+
+        return max(longest(it) for it in below)
+
+
+def table(logs):
+    costs, below = Costs(logs), crates()
+    rows = []
     for name in below:
-        if name in took:
-            parts = took[name]
-            ready = max((ended.get(it, 0) for it in below[name]), default=0)
-            rows.append((sum(parts.values()), name, parts, ready, ended.get(name, 0)))
-    rows.sort(key=lambda it: -it[0])
+        parts = [costs.took.get((name, it), 0) for it in KINDS]
+        ready = max((costs.ended.get(it, 0) for it in below[name]), default=0)
+        if sum(parts):
+            rows.append([sum(parts), name, parts, ready, costs.ended.get(name, 0)])
     lines = ["| Crate | Proof | Tests | Edits | Sum | Ready | Proved |", "|---|---|---|---|---|---|---|"]
-    for whole, name, parts, ready, end in rows:
-        lines.append("| " + " | ".join([f"`{name}`", *[f"{parts[it]:.0f}" for it in KINDS], f"{whole:.0f}", f"{ready:.0f}", f"{end:.0f}"]) + " |")
-    sums = {it: sum(row[2][it] for row in rows) for it in KINDS}
-    lines.append("| all | " + " | ".join(f"{sums[it]:.0f}" for it in KINDS) + f" | {sum(sums.values()):.0f} | | {run_of['seconds']:.0f} |")
-    last = max((longest(it) for it in below), default=(0, []))
-    lines += ["", f"In all {sum(sums.values()) / 60:.0f} processor minutes, in {run_of['seconds'] / 60:.0f} minutes; {len(rows)} of the {len(below)} crates were proved in this run.",
-              f"The longest chain of proofs took {last[0] / 60:.0f} minutes: " + ", ".join(f"`{it}`" for it in last[1] if it in began) + "."]
-    return "\n".join(lines)
+    for whole, name, parts, ready, end in sorted(rows, reverse=True):
+        lines.append("| " + " | ".join([f"`{name}`", *[f"{it:.0f}" for it in parts], f"{whole:.0f}", f"{ready:.0f}", f"{end:.0f}"]) + " |")
+    sums = [sum(row[2][it] for row in rows) for it in range(len(KINDS))]
+    lines.append("| all | " + " | ".join(f"{it:.0f}" for it in sums) + f" | {sum(sums):.0f} | | {costs.seconds:.0f} |")
+    chain, names = costs.chain(below)
+    counts = sorted(costs.counts) or [QUIET]
+    said = [
+        f"In all {sum(sums) / 60:.0f} processor minutes, in {costs.seconds / 60:.0f} minutes; {len(rows)} of the {len(below)} crates were proved.",
+        f"The longest chain of proofs took {chain / 60:.0f} minutes: " + ", ".join(f"`{it}`" for it in names if it in costs.began) + ".",
+        f"Meanwhile counting to a million in Python took {sum(counts) / len(counts):.3f} seconds of a processor, from {counts[0]:.3f} to {counts[-1]:.3f}.",
+        f"On one where it always takes {QUIET} it would be {sum(costs.quiet.values()) / 60:.0f} processor minutes.",
+    ]
+    said += [] if costs.is_whole else ["The run was stopped before its end."]
+    return "\n".join([*lines, "", *textwrap.wrap(" ".join(said), 120, break_long_words=False)])
 
 
 def put(text, file):
@@ -150,9 +220,10 @@ def put(text, file):
 def main(words):
     if words[:1] == ["run"] and len(words) > 2:
         return run(words[1], words[2:])
-    if words[:1] == ["table"] and len(words) in (2, 3):
-        text = table(words[1])
-        put(text, words[2]) if words[2:] else print(text)
+    if words[:1] == ["table"] and len(words) > 1:
+        logs, _, file = " ".join(words[1:]).partition(" --into ")
+        text = table(logs.split())
+        put(text, file) if file else print(text)
         return 0
     sys.exit(__doc__)
 
