@@ -7,18 +7,18 @@ use sq_farm::Got;
 use sq_machine::Refusal;
 use sq_rules::{Outcome, Why};
 use std::alloc::Global;
-use std::test::Fail;
+use std::process::Abort;
 
 /// Why a call was refused.
-pub fn refused(alloc: Global, refusal: Refusal) -> Result<String, Fail> {
-    Ok(format!(in alloc; "refused: {refusal}")?)
+pub fn refused(rt: &impl Abort, alloc: Global, refusal: Refusal) -> String {
+    format!(in alloc; "refused: {refusal}").expect(rt, "memory")
 }
 
 /// That it was done.
-pub fn fine(alloc: Global, answer: Result<(), Refusal>) -> Result<String, Fail> {
+pub fn fine(rt: &impl Abort, alloc: Global, answer: Result<(), Refusal>) -> String {
     match answer {
-        Ok(()) => Ok(format!(in alloc; "ok")?),
-        Err(refusal) => refused(alloc, refusal),
+        Ok(()) => format!(in alloc; "ok").expect(rt, "memory"),
+        Err(refusal) => refused(rt, alloc, refusal),
     }
 }
 
@@ -36,37 +36,37 @@ fn cause(cause: Cause) -> &'static str {
 }
 
 /// An outcome.
-pub fn outcome(alloc: Global, outcome: &Outcome) -> Result<String, Fail> {
+pub fn outcome(rt: &impl Abort, alloc: Global, outcome: &Outcome) -> String {
     let action = if outcome.allow { "allowed" } else { "denied" };
     match &outcome.why {
-        Why::Rule(rule) => Ok(format!(in alloc; "{action} rule {rule}")?),
-        Why::Default => Ok(format!(in alloc; "{action} default")?),
-        Why::Empty => Ok(format!(in alloc; "{action} empty")?),
+        Why::Rule(rule) => format!(in alloc; "{action} rule {rule}").expect(rt, "memory"),
+        Why::Default => format!(in alloc; "{action} default").expect(rt, "memory"),
+        Why::Empty => format!(in alloc; "{action} empty").expect(rt, "memory"),
         Why::Fault {
             rule,
             acl,
             cause: by,
         } => {
             let by = cause(*by);
-            Ok(format!(in alloc; "{action} fault {rule} {acl} {by}")?)
+            format!(in alloc; "{action} fault {rule} {acl} {by}").expect(rt, "memory")
         }
     }
 }
 
 /// A check that is over: its epoch, its outcome, how many answers it took and how often it was stepped.
-pub fn judged(alloc: Global, record: &Record) -> Result<String, Fail> {
+pub fn judged(rt: &impl Abort, alloc: Global, record: &Record) -> String {
     let epoch = record.epoch().0;
     let answers = record.answers().len();
     let steps = record.steps();
-    let outcome = outcome(alloc, record.outcome())?;
-    Ok(format!(in alloc; "epoch {epoch} {outcome}, {answers} in {steps}")?)
+    let outcome = outcome(rt, alloc, record.outcome());
+    format!(in alloc; "epoch {epoch} {outcome}, {answers} in {steps}").expect(rt, "memory")
 }
 
 /// What a line came to.
-pub fn got(alloc: Global, got: &Got) -> Result<String, Fail> {
+pub fn got(rt: &impl Abort, alloc: Global, got: &Got) -> String {
     match got {
-        Got::Bad => Ok(format!(in alloc; "bad")?),
-        Got::Stray => Ok(format!(in alloc; "stray")?),
+        Got::Bad => format!(in alloc; "bad").expect(rt, "memory"),
+        Got::Stray => format!(in alloc; "stray").expect(rt, "memory"),
         Got::Reply(question, reply) => {
             let number = question.0;
             let word = match reply.word {
@@ -74,24 +74,24 @@ pub fn got(alloc: Global, got: &Got) -> Result<String, Fail> {
                 Word::No => "err",
                 Word::Broken => "bh",
             };
-            Ok(format!(in alloc; "reply {number} {word}")?)
+            format!(in alloc; "reply {number} {word}").expect(rt, "memory")
         }
     }
 }
 
 /// An act, or none.
-pub fn act(alloc: Global, engine: &Engine, act: &Option<Act>) -> Result<String, Fail> {
+pub fn act(rt: &impl Abort, alloc: Global, engine: &Engine, act: &Option<Act>) -> String {
     match act {
-        None => Ok(format!(in alloc; "none")?),
+        None => format!(in alloc; "none").expect(rt, "memory"),
         Some(Act::Stop(proc)) => {
             let number = proc.0;
-            Ok(format!(in alloc; "stop {number}")?)
+            format!(in alloc; "stop {number}").expect(rt, "memory")
         }
         Some(Act::Start { epoch, class }) => {
             let number = epoch.0;
             match engine.name(*epoch, *class) {
-                Some(name) => Ok(format!(in alloc; "start {number} {name}")?),
-                None => Err(Fail::new("a start of no class")),
+                Some(name) => format!(in alloc; "start {number} {name}").expect(rt, "memory"),
+                None => rt.panic("a start of no class"),
             }
         }
         Some(
@@ -104,10 +104,12 @@ pub fn act(alloc: Global, engine: &Engine, act: &Option<Act>) -> Result<String, 
         ) => {
             let proc = proc.0;
             let question = question.0;
-            let key = str::from_utf8(text.as_bytes()).map_err(|_| "a key of other bytes")?;
+            let key = str::from_utf8(text.as_bytes()).expect(rt, "a key");
             match channel {
-                Some(channel) => Ok(format!(in alloc; "send {proc} {question} {channel} {key}")?),
-                None => Ok(format!(in alloc; "send {proc} {question} - {key}")?),
+                Some(channel) => format!(in alloc; "send {proc} {question} {channel} {key}").expect(
+                    rt, "memory",
+                ),
+                None => format!(in alloc; "send {proc} {question} - {key}").expect(rt, "memory"),
             }
         }
     }

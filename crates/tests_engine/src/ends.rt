@@ -1,6 +1,5 @@
 //! How questions end but by an answer: deaths, lines that end a process, failed starts and full queues.
-use crate::scripts::{Before, Case, differing};
-use std::test::Fail;
+use crate::scripts::{Before, Case, check};
 
 static CASES: [Case; 23] = [
     // A process dies between a send and its answer.
@@ -416,9 +415,6 @@ end => 1 2 6000
 ];
 
 #[test]
-fn each_end_reaches_the_checks_that_wait(rt: HostRuntime) -> Result<(), Fail> {
-    let alloc = rt.alloc();
-    let others = differing(alloc, &CASES)?;
-    assert!(rt; others.is_empty(), "{others}");
-    Ok(())
+fn each_end_reaches_the_checks_that_wait(rt: HostRuntime) {
+    check(&rt, rt.alloc(), &CASES);
 }

@@ -1,6 +1,5 @@
 //! Epochs: what a reconfiguration ends, moves and leaves.
-use crate::scripts::{Before, Case, differing};
-use std::test::Fail;
+use crate::scripts::{Before, Case, check};
 
 static CASES: [Case; 18] = [
     // A check is judged by the configuration of its epoch, which ends with it.
@@ -363,9 +362,6 @@ end => 14 16 0
 ];
 
 #[test]
-fn epochs_live_as_long_as_they_are_needed(rt: HostRuntime) -> Result<(), Fail> {
-    let alloc = rt.alloc();
-    let others = differing(alloc, &CASES)?;
-    assert!(rt; others.is_empty(), "{others}");
-    Ok(())
+fn epochs_live_as_long_as_they_are_needed(rt: HostRuntime) {
+    check(&rt, rt.alloc(), &CASES);
 }

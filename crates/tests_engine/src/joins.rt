@@ -1,6 +1,5 @@
 //! Questions that checks share, and those that go to other channels and processes.
-use crate::scripts::{Before, Case, differing};
-use std::test::Fail;
+use crate::scripts::{Before, Case, check};
 
 static CASES: [Case; 20] = [
     // A second connection joins a question that was sent.
@@ -383,9 +382,6 @@ end => 1 4 1
 ];
 
 #[test]
-fn questions_are_shared_across_connections(rt: HostRuntime) -> Result<(), Fail> {
-    let alloc = rt.alloc();
-    let others = differing(alloc, &CASES)?;
-    assert!(rt; others.is_empty(), "{others}");
-    Ok(())
+fn questions_are_shared_across_connections(rt: HostRuntime) {
+    check(&rt, rt.alloc(), &CASES);
 }

@@ -1,6 +1,5 @@
 //! Cached replies: how long they are fresh, which goes first, and refreshes.
-use crate::scripts::{Before, Case, differing};
-use std::test::Fail;
+use crate::scripts::{Before, Case, check};
 
 static CASES: [Case; 15] = [
     // An OK is fresh for its time, and not longer.
@@ -269,9 +268,6 @@ end => 1 2 10001
 ];
 
 #[test]
-fn verdicts_are_kept_for_their_time(rt: HostRuntime) -> Result<(), Fail> {
-    let alloc = rt.alloc();
-    let others = differing(alloc, &CASES)?;
-    assert!(rt; others.is_empty(), "{others}");
-    Ok(())
+fn verdicts_are_kept_for_their_time(rt: HostRuntime) {
+    check(&rt, rt.alloc(), &CASES);
 }

@@ -4,7 +4,7 @@ use sq_base::{CheckNo, Moment};
 use sq_checks::Record;
 use sq_engine::Engine;
 use std::alloc::Global;
-use std::test::Fail;
+use std::process::Abort;
 
 /// A check asks its first question.
 static BEGIN: &str = "0 open 1 10.1.2.3 4000
@@ -21,11 +21,10 @@ static ANSWER: &str = "0 line 1 ERR
 0 act
 ";
 
-fn all(alloc: Global, engine: &mut Engine, lines: &str) -> Result<(), Fail> {
+fn run_all(rt: &impl Abort, alloc: Global, engine: &mut Engine, lines: &str) {
     for line in lines.lines() {
-        run(alloc, engine, line)?;
+        run(rt, alloc, engine, line);
     }
-    Ok(())
 }
 
 /// Whether a check was allowed after 21 steps, each of which waited for an answer but the last, and looked at as many
@@ -38,22 +37,18 @@ fn is_looked_at(record: &Record) -> bool {
 }
 
 /// The record of the check, which asked as many questions.
-fn asked(alloc: Global, engine: &mut Engine) -> Result<Record, Fail> {
-    all(alloc, engine, BEGIN)?;
+fn asked(rt: &impl Abort, alloc: Global, engine: &mut Engine) -> Record {
+    run_all(rt, alloc, engine, BEGIN);
     for _ in 0..20 {
-        all(alloc, engine, ANSWER)?;
+        run_all(rt, alloc, engine, ANSWER);
     }
-    match engine.take(CheckNo(1), Moment(0)) {
-        Ok(record) => Ok(record),
-        Err(_) => Err(Fail::new("not done")),
-    }
+    engine.take(CheckNo(1), Moment(0)).expect(rt, "a record")
 }
 
 #[test]
-fn a_check_that_waits_looks_at_each_list_once(rt: HostRuntime) -> Result<(), Fail> {
+fn a_check_that_waits_looks_at_each_list_once(rt: HostRuntime) {
     let alloc = rt.alloc();
-    let mut engine = begun(alloc, "long")?;
-    let record = asked(alloc, &mut engine)?;
+    let mut engine = begun(&rt, alloc, "long");
+    let record = asked(&rt, alloc, &mut engine);
     assert!(rt; is_looked_at(&record));
-    Ok(())
 }

@@ -1,6 +1,5 @@
 //! Refusals, which leave the machine and its moment as they are.
-use crate::scripts::{Before, Case, differing};
-use std::test::Fail;
+use crate::scripts::{Before, Case, check};
 
 static CASES: [Case; 12] = [
     // A connection is open once.
@@ -182,9 +181,6 @@ end => 1 1 0
 ];
 
 #[test]
-fn refusals_change_nothing(rt: HostRuntime) -> Result<(), Fail> {
-    let alloc = rt.alloc();
-    let others = differing(alloc, &CASES)?;
-    assert!(rt; others.is_empty(), "{others}");
-    Ok(())
+fn refusals_change_nothing(rt: HostRuntime) {
+    check(&rt, rt.alloc(), &CASES);
 }

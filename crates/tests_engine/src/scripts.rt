@@ -2,7 +2,7 @@
 use crate::machines::{begun, run};
 use sq_engine::Engine;
 use std::alloc::Global;
-use std::test::Fail;
+use std::process::Abort;
 
 /// What a case begins with.
 #[derive(Clone, Copy)]
@@ -53,35 +53,20 @@ fn lines_of(before: Before) -> &'static str {
     }
 }
 
-/// The first of these lines of which something else comes, with what comes of it; none where all are right.
-fn other(alloc: Global, engine: &mut Engine, lines: &str) -> Result<Option<String>, Fail> {
+/// Runs these lines, and ends the process where something else comes of one.
+fn check_lines(rt: &impl Abort, alloc: Global, engine: &mut Engine, lines: &str) {
     for row in lines.lines() {
-        let (line, wanted) = row.split_once(" => ").ok_or("no answer")?;
-        let came = run(alloc, engine, line)?;
-        if came.as_str() != wanted {
-            return Ok(Some(format!(in alloc; "{row} but {came}")?));
-        }
-    }
-    Ok(None)
-}
-
-/// The first line of a case of which something else comes, with what comes of it; none where all are right.
-fn first_other(alloc: Global, case: &Case) -> Result<Option<String>, Fail> {
-    let mut engine = begun(alloc, case.0)?;
-    match other(alloc, &mut engine, lines_of(case.1))? {
-        Some(row) => Ok(Some(row)),
-        None => other(alloc, &mut engine, case.2),
+        let (line, wanted) = row.split_once(" => ").expect(rt, "an answer");
+        let came = run(rt, alloc, engine, line);
+        assert!(rt; came.as_str() == wanted, "{row} but {came}");
     }
 }
 
-/// The first such line of each case that has one.
-pub fn differing(alloc: Global, cases: &[Case]) -> Result<String, Fail> {
-    let mut rows = String::new(alloc);
-    for case in cases {
-        if let Some(row) = first_other(alloc, case)? {
-            rows.push_str(&row)?;
-            rows.push_str("\n")?;
-        }
+/// Runs the cases, and ends the process where something else comes of a line.
+pub fn check(rt: &impl Abort, alloc: Global, cases: &[Case]) {
+    for (config, before, lines) in cases {
+        let mut engine = begun(rt, alloc, config);
+        check_lines(rt, alloc, &mut engine, lines_of(*before));
+        check_lines(rt, alloc, &mut engine, lines);
     }
-    Ok(rows)
 }
