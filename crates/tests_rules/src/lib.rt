@@ -1,37 +1,12 @@
-//! Tests of configurations that are made or built from parts, and of their patterns; of the facts of a check, of what
-//! rules come to over answers of helpers, at one stroke and by a stored place, of keys, of the pool and of the tag of a
-//! check; of open connections and open checks; of questions about hosts, with the replies to them, and of a pipe.
+//! Tests of what the machine stands on: what a configuration, its helpers and its clients write (`config`), the world in memory
+//! and journals (`outside`), and what rules come to (`rules`).
 //!
-//! It has no public call. The expected values come from Squid's configuration reference, directives `acl`,
-//! `http_access`, `external_acl_type`, `delay_access` and `delay_pools`, from the syntax of the crate regex, and from
-//! counting by hand.
+//! It has no public call.
 #![tactic(auto)]
 
 #[cfg(test)]
-mod checks;
+mod config;
 #[cfg(test)]
-mod classes;
+mod outside;
 #[cfg(test)]
-mod configs;
-#[cfg(test)]
-mod conns;
-#[cfg(test)]
-mod facts;
-#[cfg(test)]
-mod fixtures;
-#[cfg(test)]
-mod frames;
-#[cfg(test)]
-mod groups;
-#[cfg(test)]
-mod keys;
-#[cfg(test)]
-mod lookups;
-#[cfg(test)]
-mod parts;
-#[cfg(test)]
-mod patterns;
-#[cfg(test)]
-mod pools;
-#[cfg(test)]
-mod tags;
+mod rules;

@@ -1,29 +1,14 @@
-//! Tests of sessions, as tables over links and a front in memory.
+//! Tests of what a client's connection goes through, from below: heads and bodies (`http`), exchanges and tunnels (`forward`),
+//! sessions over a front in memory (`session`), and over a machine in memory (`hub`).
 //!
-//! It has no public call. What both sides of a link are sent is written by hand from the forms of heads and bodies
-//! that go through the proxy, and from the order in which a request is judged. Each session is fed whole and byte by
-//! byte, and then again with each call of each object failing in turn.
+//! It has no public call.
 #![tactic(auto)]
 
 #[cfg(test)]
-mod access;
+mod forward;
 #[cfg(test)]
-mod bodies;
+mod http;
 #[cfg(test)]
-mod cases;
+mod hub;
 #[cfg(test)]
-mod front;
-#[cfg(test)]
-mod heads;
-#[cfg(test)]
-mod refusals;
-#[cfg(test)]
-mod replies;
-#[cfg(test)]
-mod rewrites;
-#[cfg(test)]
-mod running;
-#[cfg(test)]
-mod seats;
-#[cfg(test)]
-mod tables;
+mod session;
