@@ -1,5 +1,4 @@
 //! The calls of a desk, and of a hub, by the events of lines. The classes at the places 0 and 1 have the names `v` and `w`.
-ghost use Rattle.std.specs.Prelude.{IfOk};
 ghost use Rattle.sq_calls.specs.Legality.{IsStated};
 
 use sq_base::{CheckNo, ConnNo, EpochNo, Moment, ProcNo, Request, Text};
@@ -16,7 +15,7 @@ use sq_request::make_request;
 use sq_rules::{Outcome, Why};
 use sq_urlmatch::Setup;
 use std::alloc::Global;
-use std::test::Fail;
+use std::process::Abort;
 
 /// What a call told, or why it was not made; nothing, where no act was due.
 pub type Gave = Result<Option<Told>, DeskFault>;
@@ -31,20 +30,20 @@ fn place_of(name: &Text) -> u32 {
 }
 
 // The name of the class at this place; `?` where there is none.
-fn name_at(alloc: Global, place: u32) -> Result<Text, Fail> {
+fn name_at(rt: &impl Abort, alloc: Global, place: u32) -> Text {
     let name: &[u8] = match place {
         0 => b"v",
         1 => b"w",
         _ => b"?",
     };
-    Ok(Text::from_slice(alloc, name)?)
+    Text::from_slice(alloc, name).expect(rt, "memory")
 }
 
 /// The configuration that a text states.
-pub fn setup_of(alloc: Global, text: &[u8]) -> Result<Setup, Fail>
-    ensures { IfOk result (λ c. IsStated c) }
+pub fn setup_of(rt: &impl Abort, alloc: Global, text: &[u8]) -> Setup
+    ensures { IsStated result }
 {
-    Ok(read_config(alloc, text)?)
+    read_config(alloc, text).expect(rt, "a configuration")
 }
 
 // That it was done.
@@ -56,7 +55,7 @@ fn fine(gave: Result<(), DeskFault>) -> Gave {
 }
 
 // The connection and the request of an event.
-fn asking(alloc: Global, event: Event) -> Result<(ConnNo, Request), Fail> {
+fn asking(rt: &impl Abort, alloc: Global, event: Event) -> (ConnNo, Request) {
     let Event::Ask {
         conn,
         method,
@@ -64,10 +63,10 @@ fn asking(alloc: Global, event: Event) -> Result<(ConnNo, Request), Fail> {
         fields,
     } = event
     else {
-        return Err(Fail::new("no request"));
+        panic!(rt; "no request");
     };
-    let request = make_request(alloc, method.as_bytes(), target.as_bytes(), 1, fields)?;
-    Ok((conn, request))
+    let request = make_request(alloc, method.as_bytes(), target.as_bytes(), 1, fields);
+    (conn, request.expect(rt, "a request"))
 }
 
 // The number of the check that began.
@@ -79,70 +78,78 @@ fn begun(gave: Result<CheckNo, DeskFault>) -> Gave {
 }
 
 // A request arrives.
-fn ask<D: ConnCalls>(alloc: Global, desk: &mut D, event: Event, now: Moment) -> Result<Gave, Fail> {
-    let (conn, request) = asking(alloc, event)?;
-    Ok(begun(desk.ask(alloc, conn, request, now)))
+fn ask<D: ConnCalls>(
+    rt: &impl Abort,
+    alloc: Global,
+    desk: &mut D,
+    event: Event,
+    now: Moment,
+) -> Gave {
+    let (conn, request) = asking(rt, alloc, event);
+    begun(desk.ask(alloc, conn, request, now))
 }
 
 // The answer that tells of a step.
-fn told_step(alloc: Global, stepped: &Stepped) -> Result<Told, Fail> {
+fn told_step(rt: &impl Abort, alloc: Global, stepped: &Stepped) -> Told {
     match stepped {
-        Stepped::Took(class) => Ok(Told::Took(name_at(alloc, *class)?)),
-        Stepped::Waits(question) => Ok(Told::Waits(*question)),
-        Stepped::Done => Ok(Told::Done),
+        Stepped::Took(class) => Told::Took(name_at(rt, alloc, *class)),
+        Stepped::Waits(question) => Told::Waits(*question),
+        Stepped::Done => Told::Done,
     }
 }
 
 // How a check goes on.
-fn stepped(alloc: Global, gave: Result<Stepped, DeskFault>) -> Result<Gave, Fail> {
+fn stepped(rt: &impl Abort, alloc: Global, gave: Result<Stepped, DeskFault>) -> Gave {
     match gave {
-        Ok(stepped) => Ok(Ok(Some(told_step(alloc, &stepped)?))),
-        Err(fault) => Ok(Err(fault)),
+        Ok(stepped) => Ok(Some(told_step(rt, alloc, &stepped))),
+        Err(fault) => Err(fault),
+    }
+}
+
+// The answer that tells of a check's outcome.
+fn told_outcome(rt: &impl Abort, alloc: Global, record: &Record) -> Told {
+    Told::Judged {
+        epoch: record.epoch(),
+        outcome: copy_outcome(alloc, record.outcome()).expect(rt, "memory"),
     }
 }
 
 // The outcome of a check.
-fn taken(alloc: Global, gave: Result<Record, DeskFault>) -> Result<Gave, Fail> {
+fn taken(rt: &impl Abort, alloc: Global, gave: Result<Record, DeskFault>) -> Gave {
     match gave {
-        Ok(record) => {
-            let outcome = copy_outcome(alloc, record.outcome())?;
-            Ok(Ok(Some(Told::Judged {
-                epoch: record.epoch(),
-                outcome,
-            })))
-        }
-        Err(fault) => Ok(Err(fault)),
+        Ok(record) => Ok(Some(told_outcome(rt, alloc, &record))),
+        Err(fault) => Err(fault),
     }
 }
 
 // The answer that tells of an act.
-fn told_act(alloc: Global, act: Act) -> Result<Told, Fail> {
+fn told_act(rt: &impl Abort, alloc: Global, act: Act) -> Told {
     match act {
-        Act::Stop(proc) => Ok(Told::Stop(proc)),
+        Act::Stop(proc) => Told::Stop(proc),
         Act::Send {
             proc,
             question,
             channel,
             text,
-        } => Ok(Told::Send {
+        } => Told::Send {
             proc,
             question,
             channel,
             key: text,
-        }),
-        Act::Start { epoch, class } => {
-            let class = name_at(alloc, class)?;
-            Ok(Told::Start { epoch, class })
-        }
+        },
+        Act::Start { epoch, class } => Told::Start {
+            epoch,
+            class: name_at(rt, alloc, class),
+        },
     }
 }
 
 // The next act.
-fn act<D: HelperCalls>(alloc: Global, desk: &mut D, now: Moment) -> Result<Gave, Fail> {
+fn act<D: HelperCalls>(rt: &impl Abort, alloc: Global, desk: &mut D, now: Moment) -> Gave {
     match desk.act(alloc, now) {
-        Ok(Some(act)) => Ok(Ok(Some(told_act(alloc, act)?))),
-        Ok(None) => Ok(Ok(None)),
-        Err(fault) => Ok(Err(fault)),
+        Ok(Some(act)) => Ok(Some(told_act(rt, alloc, act))),
+        Ok(None) => Ok(None),
+        Err(fault) => Err(fault),
     }
 }
 
@@ -188,53 +195,56 @@ fn line<D: HelperCalls>(
 
 // Another configuration, by its text.
 fn reconfigure<D: ControlCalls>(
+    rt: &impl Abort,
     alloc: Global,
     desk: &mut D,
     text: &Text,
     now: Moment,
-) -> Result<Gave, Fail> {
-    let setup = setup_of(alloc, text.as_bytes())?;
+) -> Gave {
+    let setup = setup_of(rt, alloc, text.as_bytes());
     match desk.reconfigure(alloc, setup, now) {
-        Ok(epoch) => Ok(Ok(Some(Told::Epoch(epoch)))),
-        Err(fault) => Ok(Err(fault)),
+        Ok(epoch) => Ok(Some(Told::Epoch(epoch))),
+        Err(fault) => Err(fault),
     }
 }
 
 /// Makes the call of an event that a thread of a helper process makes.
 pub fn call_helper<D: HelperCalls>(
+    rt: &impl Abort,
     alloc: Global,
     desk: &mut D,
     event: Event,
     now: Moment,
-) -> Result<Gave, Fail> {
+) -> Gave {
     match event {
-        Event::Started { epoch, class } => Ok(started(alloc, desk, epoch, &class, now)),
+        Event::Started { epoch, class } => started(alloc, desk, epoch, &class, now),
         Event::StartFail { epoch, class } => {
             let class = place_of(&class);
-            Ok(fine(desk.start_failed(alloc, epoch, class, now)))
+            fine(desk.start_failed(alloc, epoch, class, now))
         }
-        Event::Line { proc, bytes } => Ok(line(alloc, desk, proc, &bytes, now)),
-        Event::Died { proc } => Ok(fine(desk.died(proc, now))),
-        Event::Act => act(alloc, desk, now),
-        _ => Err(Fail::new("no call of a helper")),
+        Event::Line { proc, bytes } => line(alloc, desk, proc, &bytes, now),
+        Event::Died { proc } => fine(desk.died(proc, now)),
+        Event::Act => act(rt, alloc, desk, now),
+        _ => panic!(rt; "no call of a helper"),
     }
 }
 
 /// Makes the call of an event.
 pub fn call<D: DeskCalls>(
+    rt: &impl Abort,
     alloc: Global,
     desk: &mut D,
     event: Event,
     now: Moment,
-) -> Result<Gave, Fail> {
+) -> Gave {
     match event {
-        Event::Open { conn, addr, port } => Ok(fine(desk.open(conn, addr, port, now))),
-        Event::Close { conn } => Ok(fine(desk.close(conn, now))),
-        Event::Ask { .. } => ask(alloc, desk, event, now),
-        Event::Step { check } => stepped(alloc, desk.step(alloc, check, now)),
-        Event::Take { check } => taken(alloc, desk.take(alloc, check, now)),
-        Event::Reconfigure { text } => reconfigure(alloc, desk, &text, now),
-        event => call_helper(alloc, desk, event, now),
+        Event::Open { conn, addr, port } => fine(desk.open(conn, addr, port, now)),
+        Event::Close { conn } => fine(desk.close(conn, now)),
+        Event::Ask { .. } => ask(rt, alloc, desk, event, now),
+        Event::Step { check } => stepped(rt, alloc, desk.step(alloc, check, now)),
+        Event::Take { check } => taken(rt, alloc, desk.take(alloc, check, now)),
+        Event::Reconfigure { text } => reconfigure(rt, alloc, desk, &text, now),
+        event => call_helper(rt, alloc, desk, event, now),
     }
 }
 
@@ -249,15 +259,15 @@ fn gave_by<T>(gave: Result<T, HubFault>) -> Result<T, DeskFault> {
 }
 
 /// Makes the call of an event that a connection makes, at the moment of the hub's clock.
-pub fn call_hub<H: Hub>(alloc: Global, hub: &mut H, event: Event) -> Result<Gave, Fail> {
+pub fn call_hub<H: Hub>(rt: &impl Abort, alloc: Global, hub: &mut H, event: Event) -> Gave {
     match event {
-        Event::Open { conn, addr, port } => { Ok(fine(gave_by(hub.open(alloc, conn, addr, port)))) }
-        Event::Close { conn } => Ok(fine(gave_by(hub.close(conn)))),
-        Event::Step { check } => stepped(alloc, gave_by(hub.step(alloc, check))),
-        Event::Take { check } => taken(alloc, gave_by(hub.take(alloc, check))),
+        Event::Open { conn, addr, port } => fine(gave_by(hub.open(alloc, conn, addr, port))),
+        Event::Close { conn } => fine(gave_by(hub.close(conn))),
+        Event::Step { check } => stepped(rt, alloc, gave_by(hub.step(alloc, check))),
+        Event::Take { check } => taken(rt, alloc, gave_by(hub.take(alloc, check))),
         event => {
-            let (conn, request) = asking(alloc, event)?;
-            Ok(begun(gave_by(hub.ask(alloc, conn, request))))
+            let (conn, request) = asking(rt, alloc, event);
+            begun(gave_by(hub.ask(alloc, conn, request)))
         }
     }
 }

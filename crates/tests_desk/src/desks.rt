@@ -15,7 +15,7 @@ use sq_machine::{Entry, Event, Offset, Told};
 use sq_urlmatch::Setup;
 use std::alloc::Global;
 use std::marker::Brand;
-use std::test::Fail;
+use std::process::Abort;
 
 /// For how many entries a journal has room.
 const ROOM: usize = 100;
@@ -61,10 +61,9 @@ pub fn gave_mark(gave: &Gave, wanted: &Told) -> &'static str {
 }
 
 /// The mark of a line whose call a hub makes, at the moment of its clock.
-pub fn hub_mark<H: Hub>(alloc: Global, hub: &mut H, row: &str) -> Result<&'static str, Fail> {
-    let Entry { event, answer, .. } = read_entry(alloc, row.as_bytes())?;
-    let gave = call_hub(alloc, hub, event)?;
-    Ok(gave_mark(&gave, &answer))
+pub fn hub_mark<H: Hub>(rt: &impl Abort, alloc: Global, hub: &mut H, row: &str) -> &'static str {
+    let Entry { event, answer, .. } = read_entry(alloc, row.as_bytes()).expect(rt, "an entry");
+    gave_mark(&call_hub(rt, alloc, hub, event), &answer)
 }
 
 /// Whether the call of a line adds an entry, where nothing fails.
@@ -73,14 +72,14 @@ pub fn is_noted(row: &str) -> bool {
 }
 
 // The moment and the event of a line, and the answer that is wanted, where its call adds an entry.
-fn read_row(alloc: Global, row: &str) -> Result<(Moment, Event, Option<Told>), Fail> {
+fn read_row(rt: &impl Abort, alloc: Global, row: &str) -> (Moment, Event, Option<Told>) {
     if is_noted(row) {
-        let entry = read_entry(alloc, row.as_bytes())?;
-        return Ok((entry.moment, entry.event, Some(entry.answer)));
+        let entry = read_entry(alloc, row.as_bytes()).expect(rt, "an entry");
+        return (entry.moment, entry.event, Some(entry.answer));
     }
-    let (line, _) = row.split_once(" => ").ok_or("no answer")?;
-    let (moment, event) = read_event(alloc, line.as_bytes())?;
-    Ok((moment, event, None))
+    let (line, _) = row.split_once(" => ").expect(rt, "an answer");
+    let (moment, event) = read_event(alloc, line.as_bytes()).expect(rt, "an event");
+    (moment, event, None)
 }
 
 // The mark of what a call gave, where this is wanted, or no entry.
@@ -94,42 +93,48 @@ fn row_mark(gave: &Gave, wanted: &Option<Told>) -> &'static str {
 }
 
 /// The mark of a line.
-pub fn mark<D: DeskCalls>(alloc: Global, desk: &mut D, row: &str) -> Result<&'static str, Fail> {
-    let (moment, event, wanted) = read_row(alloc, row)?;
-    Ok(row_mark(&call(alloc, desk, event, moment)?, &wanted))
+pub fn mark<D: DeskCalls>(rt: &impl Abort, alloc: Global, desk: &mut D, row: &str) -> &'static str {
+    let (moment, event, wanted) = read_row(rt, alloc, row);
+    row_mark(&call(rt, alloc, desk, event, moment), &wanted)
 }
 
 /// The mark of a line whose call a thread of a helper process makes.
 pub fn helper_mark<D: HelperCalls>(
+    rt: &impl Abort,
     alloc: Global,
     desk: &mut D,
     row: &str,
-) -> Result<&'static str, Fail> {
-    let (moment, event, wanted) = read_row(alloc, row)?;
-    Ok(row_mark(&call_helper(alloc, desk, event, moment)?, &wanted))
+) -> &'static str {
+    let (moment, event, wanted) = read_row(rt, alloc, row);
+    row_mark(&call_helper(rt, alloc, desk, event, moment), &wanted)
+}
+
+/// Puts a part behind a text.
+pub fn append(rt: &impl Abort, text: &mut String, part: &str) {
+    text.push_str(part).expect(rt, "memory");
 }
 
 // Makes the calls of the lines. Where memory was wanting the call is made once more, but for a line that wants that.
-fn run_lines<D: DeskCalls>(alloc: Global, desk: &mut D, lines: &str) -> Result<String, Fail> {
+fn run_lines<D: DeskCalls>(rt: &impl Abort, alloc: Global, desk: &mut D, lines: &str) -> String {
     let mut marks = String::new(alloc);
     for row in lines.lines() {
-        let first = mark(alloc, desk, row)?;
-        marks.push_str(first)?;
+        let first = mark(rt, alloc, desk, row);
+        append(rt, &mut marks, first);
         if first == "M" && !row.ends_with(" => wanting") {
-            let again = mark(alloc, desk, row)?;
-            marks.push_str(again)?;
+            append(rt, &mut marks, mark(rt, alloc, desk, row));
         }
     }
-    Ok(marks)
+    marks
 }
 
 // A desk begins over the journal, and runs the job.
-fn run_job<F: DeskStart>(
+fn run_job<R: Abort, F: DeskStart>(
+    rt: &R,
     alloc: Global,
     setup: Setup,
     journal: MemJournal,
     job: Job,
-) -> Result<Ran, Fail>
+) -> Ran
     requires first { F.first ≡ record { config = setup; offset = pos 0 } }
     requires empty { mem_history journal ≡ [] }
 {
@@ -137,58 +142,57 @@ fn run_job<F: DeskStart>(
     let begun = Desk::<MemJournal, F>::new(alloc, setup, Offset(0), journal, Moment(0), seed);
     match begun {
         Ok(mut desk) => {
-            let marks = run_lines(alloc, &mut desk, lines_of(job))?;
+            let marks = run_lines(rt, alloc, &mut desk, lines_of(job));
             let refusals = desk.refusals();
-            let journal = desk.finish();
-            Ok(Ran {
+            Ran {
                 marks,
-                journal,
+                journal: desk.finish(),
                 refusals,
-            })
+            }
         }
         Err((fault, journal)) => {
             let mut marks = String::new(alloc);
-            marks.push_str(fault_mark(fault))?;
-            Ok(Ran {
+            append(rt, &mut marks, fault_mark(fault));
+            Ran {
                 marks,
                 journal,
                 refusals: 0,
-            })
+            }
         }
     }
 }
 
 /// What comes of a job over a journal of which these notes fail, and these reserves.
-pub fn run(alloc: Global, fails: Vec<u64>, wants: Vec<u64>, job: Job) -> Result<Ran, Fail> {
-    let setup = setup_of(alloc, CONF.as_bytes())?;
-    let journal = MemJournal::new(alloc, ROOM, fails, wants)?;
-    run_job::<Brand>(alloc, setup, journal, job)
+pub fn run<R: Abort>(rt: &R, alloc: Global, fails: Vec<u64>, wants: Vec<u64>, job: Job) -> Ran {
+    let setup = setup_of(rt, alloc, CONF.as_bytes());
+    let journal = MemJournal::new(alloc, ROOM, fails, wants).expect(rt, "memory");
+    run_job::<R, Brand>(rt, alloc, setup, journal, job)
 }
 
 // Whether the text of an entry is this.
-fn is_text(alloc: Global, entry: &Entry, text: &str) -> Result<bool, Fail> {
-    let printed = print_entry(alloc, entry)?;
-    Ok(printed.as_bytes() == text.as_bytes())
+fn is_text(rt: &impl Abort, alloc: Global, entry: &Entry, text: &str) -> bool {
+    let printed = print_entry(alloc, entry).expect(rt, "memory");
+    printed.as_bytes() == text.as_bytes()
 }
 
 /// Whether these entries are the first of a job that is made whole.
-pub fn is_front(alloc: Global, entries: &[Entry], job: Job) -> Result<bool, Fail> {
+pub fn is_front(rt: &impl Abort, alloc: Global, entries: &[Entry], job: Job) -> bool {
     let mut rest = entries.iter();
     let Some(first) = rest.next() else {
-        return Ok(true);
+        return true;
     };
-    if !is_text(alloc, first, BEGIN)? {
-        return Ok(false);
+    if !is_text(rt, alloc, first, BEGIN) {
+        return false;
     }
     for row in lines_of(job).lines() {
         if is_noted(row) {
             let Some(entry) = rest.next() else {
-                return Ok(true);
+                return true;
             };
-            if !is_text(alloc, entry, row)? {
-                return Ok(false);
+            if !is_text(rt, alloc, entry, row) {
+                return false;
             }
         }
     }
-    Ok(rest.next().is_none())
+    rest.next().is_none()
 }

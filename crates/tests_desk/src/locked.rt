@@ -1,11 +1,11 @@
 //! Each call of a desk, made once behind its lock and once of an equal desk.
-ghost use Rattle.std.specs.Prelude.{◌≡◌, ◌<◌, pos, true, IfOk};
+ghost use Rattle.std.specs.Prelude.{◌≡◌, ◌<◌, pos, true};
 ghost use Rattle.std.specs.Option.{ForSome};
 ghost use Rattle.sq_calls.specs.Legality.{IsStated};
 ghost use Rattle.sq_shared.specs.Books.{AreCounted};
 
 use crate::calls::setup_of;
-use crate::desks::{gave_mark, helper_mark, hub_mark, is_noted, mark};
+use crate::desks::{append, gave_mark, helper_mark, hub_mark, is_noted, mark};
 use crate::jobs::BEGIN;
 use crate::locks::{Blanks, CALLERS, Wholes, lock, pools_of};
 use sq_base::{EpochNo, Moment};
@@ -23,9 +23,9 @@ use sq_urlmatch::Setup;
 use sq_workers::LockHub;
 use std::alloc::Global;
 use std::marker::Brand;
+use std::process::Abort;
 use std::sync::ledger::Share;
 use std::sync::{Mutex, Wait};
-use std::test::Fail;
 
 /// Two classes with two processes each, of which `v` is asked at port 80 and `w` at port 81. At port 82 all is denied.
 static CONF: &str = "external_acl_type v children-max=2 %>rd /bin/h
@@ -106,23 +106,23 @@ h 8 take 6 => epoch 2 denied rule 1
 const ROOM: usize = 100;
 
 // The moments of a connection's clock: it is called 23 times at 5, and then at 8.
-fn clock(alloc: Global) -> Result<MemClock, Fail> {
+fn clock(rt: &impl Abort, alloc: Global) -> MemClock {
     let mut rest = Vec::new(alloc);
     for _ in 1..23 {
-        rest.push(Moment(5))?;
+        rest.push(Moment(5)).expect(rt, "memory");
     }
-    rest.push(Moment(8))?;
-    Ok(MemClock::new(alloc, Moment(5), rest))
+    rest.push(Moment(8)).expect(rt, "memory");
+    MemClock::new(alloc, Moment(5), rest)
 }
 
 // Whether these are the words of the class at place 1 of epoch 2.
-fn has_words<D: HelperCalls>(alloc: Global, desk: &D, word: &str) -> Result<bool, Fail> {
-    match desk.words(alloc, EpochNo(2), 1)? {
+fn has_words<D: HelperCalls>(rt: &impl Abort, alloc: Global, desk: &D, word: &str) -> bool {
+    match desk.words(alloc, EpochNo(2), 1).expect(rt, "memory") {
         Some(words) => match words.as_slice() {
-            [only] => Ok(only.as_bytes() == word.as_bytes()),
-            _ => Ok(false),
+            [only] => only.as_bytes() == word.as_bytes(),
+            _ => false,
         },
-        None => Ok(false),
+        None => false,
     }
 }
 
@@ -135,67 +135,60 @@ fn has_port<D: TellsJournal>(desk: &D, port: &str) -> bool {
 }
 
 // The mark of a line that reads: `.` where that is read.
-fn read_mark<D: HelperCalls>(alloc: Global, desk: &D, line: &str) -> Result<&'static str, Fail> {
+fn read_mark<D: HelperCalls>(rt: &impl Abort, alloc: Global, desk: &D, line: &str) -> &'static str {
     let is_read = match line.split_once(' ') {
-        Some(("words", word)) => has_words(alloc, desk, word)?,
+        Some(("words", word)) => has_words(rt, alloc, desk, word),
         Some(("port", port)) => has_port(desk, port),
         _ => false,
     };
-    Ok(if is_read { "." } else { "x" })
+    if is_read { "." } else { "x" }
 }
 
 // The mark of a line whose call is made behind the lock.
 fn row_mark<D: HelperCalls, H: Hub>(
+    rt: &impl Abort,
     alloc: Global,
     desk: &mut D,
     hub: &mut H,
     row: &str,
-) -> Result<&'static str, Fail> {
+) -> &'static str {
     match row.split_at_checked(2) {
-        Some(("d ", line)) => helper_mark(alloc, desk, line),
-        Some(("h ", line)) => hub_mark(alloc, hub, line),
-        Some(("r ", line)) => read_mark(alloc, desk, line),
-        _ => Ok("?"),
+        Some(("d ", line)) => helper_mark(rt, alloc, desk, line),
+        Some(("h ", line)) => hub_mark(rt, alloc, hub, line),
+        Some(("r ", line)) => read_mark(rt, alloc, desk, line),
+        _ => "?",
     }
 }
 
-// Makes the calls of these lines, and puts down their marks, unless something failed before.
+// Makes the calls of these lines, and puts down their marks.
 fn run_rows<D: HelperCalls, H: Hub>(
-    done: Result<(), Fail>,
+    rt: &impl Abort,
     alloc: Global,
     desk: &mut D,
     hub: &mut H,
     rows: &str,
     marks: &mut String,
-) -> Result<(), Fail> {
-    done?;
+) {
     for row in rows.lines() {
-        let mark = row_mark(alloc, desk, hub, row)?;
-        marks.push_str(mark)?;
+        append(rt, marks, row_mark(rt, alloc, desk, hub, row));
     }
-    Ok(())
 }
 
-// The moment, the configuration and the answer of a line, unless something failed before.
-fn reread_of(
-    done: Result<(), Fail>,
-    alloc: Global,
-    row: &str,
-) -> Result<(Moment, Setup, Told), Fail>
-    ensures { IfOk result (λ r. IsStated r.1) }
+// The moment, the configuration and the answer of a line.
+fn reread_of(rt: &impl Abort, alloc: Global, row: &str) -> (Moment, Setup, Told)
+    ensures { IsStated result.1 }
 {
-    done?;
-    let line = row.strip_prefix("c ").ok_or("no line of a control")?;
+    let line = row.strip_prefix("c ").expect(rt, "a line of a control");
     let Entry {
         moment,
         event,
         answer,
-    } = read_entry(alloc, line.as_bytes())?;
+    } = read_entry(alloc, line.as_bytes()).expect(rt, "an entry");
     let Event::Reconfigure { text } = event else {
-        return Err(Fail::new("no reconfiguration"));
+        panic!(rt; "no reconfiguration");
     };
-    let setup = setup_of(alloc, text.as_bytes())?;
-    Ok((moment, setup, answer))
+    let setup = setup_of(rt, alloc, text.as_bytes());
+    (moment, setup, answer)
 }
 
 // The mark of a reconfiguration.
@@ -206,17 +199,9 @@ fn epoch_mark(gave: Result<EpochNo, DeskFault>, wanted: &Told) -> &'static str {
     }
 }
 
-// Puts down the mark of a reconfiguration.
-fn put(marks: &mut String, gave: Result<EpochNo, DeskFault>, wanted: &Told) -> Result<(), Fail> {
-    marks.push_str(epoch_mark(gave, wanted))?;
-    Ok(())
-}
-
-// Makes a reconfiguration behind the lock, as the control does, and puts down its mark, unless something failed before. The
-// share is given back.
+// Makes a reconfiguration behind the lock, as the control does, and puts down its mark. The share is given back.
 #[tactic(auto, using(crate::proofs::BeginLaws::whole_share))]
-fn reread<R: Wait, D: DeskCalls, B: Ledgers>(
-    done: Result<(), Fail>,
+fn reread<R: Wait + Abort, D: DeskCalls, B: Ledgers>(
     rt: &R,
     alloc: Global,
     room: &Room<D, B>,
@@ -224,30 +209,27 @@ fn reread<R: Wait, D: DeskCalls, B: Ledgers>(
     refused: Share<Refusals<B>>,
     row: &str,
     marks: &mut String,
-) -> (Result<(), Fail>, Share<Makes<B>>)
+) -> Share<Makes<B>>
     requires counting { D.is_counting ≡ true }
     requires made { (made.parts ≡ B.makes.parts) × (0 < made.parts) }
     requires refused { 0 < refused.parts }
-    ensures { result.1.parts ≡ B.makes.parts }
+    ensures { result.parts ≡ B.makes.parts }
 {
-    let (now, setup, wanted) = match reread_of(done, alloc, row) {
-        Ok(reread) => reread,
-        Err(fault) => return (Err(fault), made),
-    };
+    let (now, setup, wanted) = reread_of(rt, alloc, row);
     let mut control = ControlDesk::new(rt, room, made, refused);
     let gave = control.reconfigure(alloc, setup, now);
-    (put(marks, gave, &wanted), control.finish())
+    append(rt, marks, epoch_mark(gave, &wanted));
+    control.finish()
 }
 
-// Whether all went well, and the shares, which are whole again once all calls were made.
+// The shares, which are whole again once all calls were made.
 struct Back<B: Ledgers> {
-    done: Result<(), Fail>,
     asked: Share<Asks<B>>,
     made: Share<Makes<B>>,
 }
 
 // Makes all calls and then the one of the case, and puts down their marks.
-fn run_case<'x, R: Wait, D: DeskCalls, B: Ledgers>(
+fn run_case<'x, R: Wait + Abort, D: DeskCalls, B: Ledgers>(
     rt: &'x R,
     alloc: Global,
     room: &'x Room<D, B>,
@@ -274,21 +256,21 @@ fn run_case<'x, R: Wait, D: DeskCalls, B: Ledgers>(
     let one = refused.split_off(1, 0);
     let two = refused.split_off(1, 0);
     let mut hub = LockHub::new(rt, room, bank, None, clock, asked, refused, granted);
-    let done = run_rows(Ok(()), alloc, &mut desk, &mut hub, FIRST, marks);
-    let (done, made) = reread(done, rt, alloc, room, made, one, AGAIN, marks);
-    let done = run_rows(done, alloc, &mut desk, &mut hub, SECOND, marks);
-    let (done, made) = if case.starts_with("c ") {
-        reread(done, rt, alloc, room, made, two, case, marks)
+    run_rows(rt, alloc, &mut desk, &mut hub, FIRST, marks);
+    let made = reread(rt, alloc, room, made, one, AGAIN, marks);
+    run_rows(rt, alloc, &mut desk, &mut hub, SECOND, marks);
+    let made = if case.starts_with("c ") {
+        reread(rt, alloc, room, made, two, case, marks)
     } else {
-        let done = run_rows(done, alloc, &mut desk, &mut hub, case, marks);
-        (done, made)
+        run_rows(rt, alloc, &mut desk, &mut hub, case, marks);
+        made
     };
     let asked = hub.finish().asked;
-    Back { done, asked, made }
+    Back { asked, made }
 }
 
-// The desk, once all calls were made behind its lock and that was opened, and whether all went well.
-fn run_locked<R: Wait, D: DeskCalls, B: Ledgers>(
+// The desk, once all calls were made behind its lock and that was opened.
+fn run_locked<R: Wait + Abort, D: DeskCalls, B: Ledgers>(
     rt: &R,
     alloc: Global,
     desk: D,
@@ -297,7 +279,7 @@ fn run_locked<R: Wait, D: DeskCalls, B: Ledgers>(
     blanks: Blanks,
     case: &str,
     marks: &mut String,
-) -> (Result<(), Fail>, D)
+) -> D
     requires counting { D.is_counting ≡ true }
     requires asks { (blanks.asks.name ≡ B.asks.name) × (blanks.asks.parts ≡ B.asks.parts)
         × (B.asks.parts ≡ 1) }
@@ -314,60 +296,64 @@ fn run_locked<R: Wait, D: DeskCalls, B: Ledgers>(
     requires granted { (pools.0.granted ≡ 0) × (pools.1.granted ≡ 0) }
 {
     let (room, bank, wholes) = lock::<D, B>(alloc, desk, pools, blanks);
-    let Back { done, asked, made } = run_case(rt, alloc, &room, &bank, clock, wholes, case, marks);
-    (done, room.into_hall().end(asked, made))
+    let Back { asked, made } = run_case(rt, alloc, &room, &bank, clock, wholes, case, marks);
+    room.into_hall().end(asked, made)
 }
 
 /// A desk of this configuration that has begun.
-pub fn begin<F: DeskStart>(alloc: Global, setup: Setup) -> Result<Desk<MemJournal, F>, Fail>
+pub fn begin<R: Abort, F: DeskStart>(rt: &R, alloc: Global, setup: Setup) -> Desk<MemJournal, F>
     requires { F.first ≡ record { config = setup; offset = pos 0 } }
-    ensures { IfOk result
-        (λ d. AreCounted 0 0 d.notes.history × (d.notes.made ≡ 0) × (d.notes.refusals ≡ 0)) }
+    ensures { AreCounted 0 0 result.notes.history
+        × (result.notes.made ≡ 0)
+        × (result.notes.refusals ≡ 0) }
 {
-    begin_failing::<F>(alloc, setup, Vec::new(alloc))
+    begin_failing::<R, F>(rt, alloc, setup, Vec::new(alloc))
 }
 
 /// The same, where these notes of its journal fail.
 #[tactic(auto, using(crate::proofs::BeginLaws::first_counted))]
-pub fn begin_failing<F: DeskStart>(
+pub fn begin_failing<R: Abort, F: DeskStart>(
+    rt: &R,
     alloc: Global,
     setup: Setup,
     fails: Vec<u64>,
-) -> Result<Desk<MemJournal, F>, Fail>
+) -> Desk<MemJournal, F>
     requires { F.first ≡ record { config = setup; offset = pos 0 } }
-    ensures { IfOk result
-        (λ d. AreCounted 0 0 d.notes.history × (d.notes.made ≡ 0) × (d.notes.refusals ≡ 0)) }
+    ensures { AreCounted 0 0 result.notes.history
+        × (result.notes.made ≡ 0)
+        × (result.notes.refusals ≡ 0) }
 {
-    let journal = MemJournal::new(alloc, ROOM, fails, Vec::new(alloc))?;
+    let journal = MemJournal::new(alloc, ROOM, fails, Vec::new(alloc)).expect(rt, "memory");
     let seed = HashSeed::fixed();
     match Desk::<MemJournal, F>::new(alloc, setup, Offset(0), journal, Moment(0), seed) {
-        Ok(desk) => Ok(desk),
-        Err(_) => Err(Fail::new("no desk is made")),
+        Ok(desk) => desk,
+        Err(_) => panic!(rt; "no desk is made"),
     }
 }
 
 // What is told of a run: the marks of its calls, and the lines of its journal.
-fn told(alloc: Global, marks: &str, journal: &MemJournal) -> Result<String, Fail> {
+fn told(rt: &impl Abort, alloc: Global, marks: &str, journal: &MemJournal) -> String {
     let mut text = String::new(alloc);
-    text.push_str(marks)?;
-    text.push('\n')?;
+    append(rt, &mut text, marks);
+    append(rt, &mut text, "\n");
     for entry in journal.entries() {
-        let line = print_entry(alloc, entry)?;
-        text.push_str(str::from_utf8(line.as_bytes())?)?;
-        text.push('\n')?;
+        let printed = print_entry(alloc, entry).expect(rt, "memory");
+        let line = str::from_utf8(printed.as_bytes()).expect(rt, "UTF-8");
+        append(rt, &mut text, line);
+        append(rt, &mut text, "\n");
     }
-    Ok(text)
+    text
 }
 
 // The journal, once all calls were made behind the lock.
-fn run_behind<R: Wait, F: DeskStart, B: Ledgers>(
+fn run_behind<R: Wait + Abort, F: DeskStart, B: Ledgers>(
     rt: &R,
     alloc: Global,
     setup: Setup,
     blanks: Blanks,
     case: &String,
     marks: &mut String,
-) -> Result<MemJournal, Fail>
+) -> MemJournal
     requires first { F.first ≡ record { config = setup; offset = pos 0 } }
     requires asks { (blanks.asks.name ≡ B.asks.name) × (blanks.asks.parts ≡ B.asks.parts)
         × (B.asks.parts ≡ 1) }
@@ -379,10 +365,10 @@ fn run_behind<R: Wait, F: DeskStart, B: Ledgers>(
     requires grants { (blanks.grants.name ≡ B.grants.name) × (blanks.grants.parts ≡ B.grants.parts)
         × (B.grants.parts ≡ 1) }
 {
-    let clock = clock(alloc)?;
-    let pools = pools_of(alloc, setup.config())?;
-    let desk = begin::<F>(alloc, setup)?;
-    let (done, desk) = run_locked::<R, Desk<MemJournal, F>, B>(
+    let clock = clock(rt, alloc);
+    let pools = pools_of(rt, alloc, setup.config());
+    let desk = begin::<R, F>(rt, alloc, setup);
+    let desk = run_locked::<R, Desk<MemJournal, F>, B>(
         rt,
         alloc,
         desk,
@@ -392,66 +378,67 @@ fn run_behind<R: Wait, F: DeskStart, B: Ledgers>(
         case.as_str(),
         marks,
     );
-    let journal = desk.finish();
-    done?;
-    Ok(journal)
+    desk.finish()
 }
 
 // What is told of the calls behind the lock.
-fn told_locked<R: Wait>(rt: &R, alloc: Global, case: &String) -> Result<String, Fail> {
+fn told_locked<R: Wait + Abort>(rt: &R, alloc: Global, case: &String) -> String {
     let mut marks = String::new(alloc);
-    let setup = setup_of(alloc, CONF.as_bytes())?;
-    let journal = run_behind::<R, Brand, Brand>(rt, alloc, setup, Blanks::new(), case, &mut marks)?;
-    told(alloc, marks.as_str(), &journal)
+    let setup = setup_of(rt, alloc, CONF.as_bytes());
+    let journal = run_behind::<R, Brand, Brand>(rt, alloc, setup, Blanks::new(), case, &mut marks);
+    told(rt, alloc, marks.as_str(), &journal)
 }
 
 // The mark of a line, whoever makes its call behind a lock.
-fn plain_mark<D: DeskCalls>(alloc: Global, desk: &mut D, row: &str) -> Result<&'static str, Fail> {
+fn plain_mark<D: DeskCalls>(
+    rt: &impl Abort,
+    alloc: Global,
+    desk: &mut D,
+    row: &str,
+) -> &'static str {
     match row.split_at_checked(2) {
-        Some(("r ", line)) => read_mark(alloc, desk, line),
-        Some((_, line)) => mark(alloc, desk, line),
-        None => Ok("?"),
+        Some(("r ", line)) => read_mark(rt, alloc, desk, line),
+        Some((_, line)) => mark(rt, alloc, desk, line),
+        None => "?",
     }
 }
 
 // Makes the calls of all lines and of the case, and puts down their marks.
 fn run_desk<D: DeskCalls>(
+    rt: &impl Abort,
     alloc: Global,
     desk: &mut D,
     case: &str,
     marks: &mut String,
-) -> Result<(), Fail> {
+) {
     for rows in [FIRST, AGAIN, SECOND, case] {
         for row in rows.lines() {
-            let mark = plain_mark(alloc, desk, row)?;
-            marks.push_str(mark)?;
+            append(rt, marks, plain_mark(rt, alloc, desk, row));
         }
     }
-    Ok(())
 }
 
 // The journal, once the same calls were made of the desk itself.
-fn run_plain<F: DeskStart>(
+fn run_plain<R: Abort, F: DeskStart>(
+    rt: &R,
     alloc: Global,
     setup: Setup,
     case: &String,
     marks: &mut String,
-) -> Result<MemJournal, Fail>
+) -> MemJournal
     requires { F.first ≡ record { config = setup; offset = pos 0 } }
 {
-    let mut desk = begin::<F>(alloc, setup)?;
-    let done = run_desk(alloc, &mut desk, case.as_str(), marks);
-    let journal = desk.finish();
-    done?;
-    Ok(journal)
+    let mut desk = begin::<R, F>(rt, alloc, setup);
+    run_desk(rt, alloc, &mut desk, case.as_str(), marks);
+    desk.finish()
 }
 
 // What is told of the same calls of the desk itself.
-fn told_plain(alloc: Global, case: &String) -> Result<String, Fail> {
+fn told_plain<R: Abort>(rt: &R, alloc: Global, case: &String) -> String {
     let mut marks = String::new(alloc);
-    let setup = setup_of(alloc, CONF.as_bytes())?;
-    let journal = run_plain::<Brand>(alloc, setup, case, &mut marks)?;
-    told(alloc, marks.as_str(), &journal)
+    let setup = setup_of(rt, alloc, CONF.as_bytes());
+    let journal = run_plain::<R, Brand>(rt, alloc, setup, case, &mut marks);
+    told(rt, alloc, marks.as_str(), &journal)
 }
 
 // The mark that the call of a line has to have: a refused one must not be told as one that wants memory, by which it would be
@@ -470,41 +457,41 @@ fn adds(row: &str) -> bool {
 }
 
 // What has to be told: each call was made, and each that adds an entry has the line's.
-fn wanted(alloc: Global, case: &str) -> Result<String, Fail> {
+fn wanted(rt: &impl Abort, alloc: Global, case: &str) -> String {
     let mut marks = String::new(alloc);
-    let mut lines = String::new(alloc);
-    lines.push_str(BEGIN)?;
+    let mut lines = text_of(rt, alloc, BEGIN);
     for rows in [FIRST, AGAIN, SECOND, case] {
         for row in rows.lines() {
-            marks.push(wanted_mark(row))?;
+            marks.push(wanted_mark(row)).expect(rt, "memory");
             if let (true, Some((_, line))) = (adds(row), row.split_at_checked(2)) {
-                lines.push('\n')?;
-                lines.push_str(line)?;
+                append(rt, &mut lines, "\n");
+                append(rt, &mut lines, line);
             }
         }
     }
-    marks.push('\n')?;
-    marks.push_str(lines.as_str())?;
-    marks.push('\n')?;
-    Ok(marks)
+    format!(in alloc; "{marks}\n{lines}\n").expect(rt, "memory")
 }
 
 /// A text of its own. A function that picks its ghost members takes no `&str`.
-pub fn text_of(alloc: Global, line: &str) -> Result<String, Fail> {
+pub fn text_of(rt: &impl Abort, alloc: Global, line: &str) -> String {
     let mut text = String::new(alloc);
-    text.push_str(line)?;
-    Ok(text)
+    append(rt, &mut text, line);
+    text
+}
+
+// Ends the process unless what has to be told is told of the calls behind the lock, and of the desk itself.
+fn check<R: Wait + Abort>(rt: &R, alloc: Global, case: &str) {
+    let wanted = wanted(rt, alloc, case);
+    let text = text_of(rt, alloc, case);
+    let locked = told_locked(rt, alloc, &text);
+    assert!(rt; locked.as_str() == wanted.as_str(), "{case}: {locked}");
+    let plain = told_plain(rt, alloc, &text);
+    assert!(rt; plain.as_str() == wanted.as_str(), "{case}: {plain}");
 }
 
 #[test]
-fn each_call_behind_the_lock_is_that_of_the_desk(rt: HostRuntime) -> Result<(), Fail> {
+fn each_call_behind_the_lock_is_that_of_the_desk(rt: HostRuntime) {
     for case in CASES.lines() {
-        let wanted = wanted(rt.alloc(), case)?;
-        let text = text_of(rt.alloc(), case)?;
-        let locked = told_locked(&rt, rt.alloc(), &text)?;
-        assert!(rt; locked.as_str() == wanted.as_str(), "{case}: {locked}");
-        let plain = told_plain(rt.alloc(), &text)?;
-        assert!(rt; plain.as_str() == wanted.as_str(), "{case}: {plain}");
+        check(&rt, rt.alloc(), case);
     }
-    Ok(())
 }

@@ -1,14 +1,15 @@
 //! A desk and delay pools behind their locks, with the shares of who calls them.
-ghost use Rattle.std.specs.Prelude.{◌≡◌, IfOk};
+ghost use Rattle.std.specs.Prelude.{◌≡◌};
 ghost use Rattle.std.specs.Option.{ForSome};
 ghost use Rattle.sq_shared.specs.Books.{AreCounted};
 
-use sq_base::{EpochNo, Moment, WantOfMemory};
+use sq_base::{EpochNo, Moment};
 use sq_calls::DeskCalls;
 use sq_pools::{Pools, TagPools};
 use sq_rules::Config;
 use sq_shared::{Asks, Bank, Grants, Hall, Ledgers, Makes, Refusals, Room};
 use std::alloc::Global;
+use std::process::Abort;
 use std::sync::ledger::{Blank, Book, Ledger, Share};
 use std::sync::{Arc, Mutex};
 
@@ -68,12 +69,12 @@ fn room_of<D: DeskCalls, B: Ledgers>(
 }
 
 /// Pools of both kinds, whose first epoch begins at 0 s.
-pub fn pools_of(alloc: Global, config: &Arc<Config>) -> Result<(Pools, TagPools), WantOfMemory>
-    ensures { IfOk result (λ p. (p.0.granted ≡ 0) × (p.1.granted ≡ 0)) }
+pub fn pools_of(rt: &impl Abort, alloc: Global, config: &Arc<Config>) -> (Pools, TagPools)
+    ensures { (result.0.granted ≡ 0) × (result.1.granted ≡ 0) }
 {
-    let pools = Pools::new(alloc, EpochNo(1), config, Moment(0))?;
-    let tags = TagPools::new(alloc, EpochNo(1), config, Moment(0))?;
-    Ok((pools, tags))
+    let pools = Pools::new(alloc, EpochNo(1), config, Moment(0)).expect(rt, "memory");
+    let tags = TagPools::new(alloc, EpochNo(1), config, Moment(0)).expect(rt, "memory");
+    (pools, tags)
 }
 
 /// Puts pools that granted nothing yet behind their lock.

@@ -1,9 +1,10 @@
 //! Each call of a rewriter, made once behind its lock and once of an equal rewriter.
-ghost use Rattle.std.specs.Prelude.{◌≡◌, ◌<◌, pos, IfOk};
+ghost use Rattle.std.specs.Prelude.{◌≡◌, ◌<◌, pos};
 ghost use Rattle.std.specs.Option.{ForSome};
 ghost use Rattle.sq_shared.specs.Books.{AreCounted};
 
 use crate::calls::setup_of;
+use crate::desks::append;
 use crate::locked::begin;
 use crate::locks::{Blanks, CALLERS, Wholes, lock, pools_of};
 use crate::seats::CLIENT;
@@ -24,8 +25,8 @@ use sq_urlmatch::Setup;
 use sq_workers::LockHub;
 use std::alloc::Global;
 use std::marker::Brand;
+use std::process::Abort;
 use std::sync::{Mutex, Wait};
-use std::test::Fail;
 
 /// A program of which two processes may run, while one question may wait.
 static CONF: &str = "url_rewrite_program /bin/r
@@ -75,11 +76,12 @@ act => none
 trait Asking {
     fn rewrites(&self) -> bool;
 
-    fn ask_about(
+    fn ask_about<R: Abort>(
         &mut self,
+        rt: &R,
         alloc: Global,
         request: Request,
-    ) -> Result<Result<QuestionNo, RewriteFault>, Fail>;
+    ) -> Result<QuestionNo, RewriteFault>;
 
     fn take_answer(&mut self, question: QuestionNo) -> Result<Option<Rewriting>, RewriteFault>;
 }
@@ -89,12 +91,13 @@ impl Asking for Rewriter {
         true
     }
 
-    fn ask_about(
+    fn ask_about<R: Abort>(
         &mut self,
+        _rt: &R,
         alloc: Global,
         request: Request,
-    ) -> Result<Result<QuestionNo, RewriteFault>, Fail> {
-        Ok(self.ask(alloc, &request, CLIENT))
+    ) -> Result<QuestionNo, RewriteFault> {
+        self.ask(alloc, &request, CLIENT)
     }
 
     fn take_answer(&mut self, question: QuestionNo) -> Result<Option<Rewriting>, RewriteFault> {
@@ -109,10 +112,10 @@ struct Behind<H> {
 }
 
 // The record of a request that is judged.
-fn judged<H: Hub>(alloc: Global, hub: &mut H, request: Request) -> Result<Record, Fail> {
-    let check = hub.ask(alloc, ConnNo(1), request)?;
-    hub.step(alloc, check)?;
-    Ok(hub.take(alloc, check)?)
+fn judged<H: Hub>(rt: &impl Abort, alloc: Global, hub: &mut H, request: Request) -> Record {
+    let check = hub.ask(alloc, ConnNo(1), request).expect(rt, "a check");
+    hub.step(alloc, check).expect(rt, "a step");
+    hub.take(alloc, check).expect(rt, "a record")
 }
 
 impl<H: Hub> Asking for Behind<H> {
@@ -120,13 +123,14 @@ impl<H: Hub> Asking for Behind<H> {
         self.hub.rewrites()
     }
 
-    fn ask_about(
+    fn ask_about<R: Abort>(
         &mut self,
+        rt: &R,
         alloc: Global,
         request: Request,
-    ) -> Result<Result<QuestionNo, RewriteFault>, Fail> {
-        let record = judged(alloc, &mut self.hub, request)?;
-        Ok(self.hub.put_rewrite(alloc, &record))
+    ) -> Result<QuestionNo, RewriteFault> {
+        let record = judged(rt, alloc, &mut self.hub, request);
+        self.hub.put_rewrite(alloc, &record)
     }
 
     fn take_answer(&mut self, question: QuestionNo) -> Result<Option<Rewriting>, RewriteFault> {
@@ -137,15 +141,15 @@ impl<H: Hub> Asking for Behind<H> {
 /// All calls of a rewriter, by their names.
 trait Answering {
     /// Makes a call, and puts down what it answers.
-    fn answer(&mut self, alloc: Global, call: &str, told: &mut String) -> Result<(), Fail>;
+    fn answer<R: Abort>(&mut self, rt: &R, alloc: Global, call: &str, told: &mut String);
 }
 
 impl Answering for Rewriter {
-    fn answer(&mut self, alloc: Global, call: &str, told: &mut String) -> Result<(), Fail> {
+    fn answer<R: Abort>(&mut self, rt: &R, alloc: Global, call: &str, told: &mut String) {
         if is_asking(call) {
-            answer_asking(alloc, self, call, told)
+            answer_asking(rt, alloc, self, call, told);
         } else {
-            answer_process(alloc, self, call, told)
+            answer_process(rt, alloc, self, call, told);
         }
     }
 }
@@ -158,11 +162,11 @@ struct Locked<Q, K> {
 }
 
 impl<Q: Asking, K: RewriterCalls> Answering for Locked<Q, K> {
-    fn answer(&mut self, alloc: Global, call: &str, told: &mut String) -> Result<(), Fail> {
+    fn answer<R: Abort>(&mut self, rt: &R, alloc: Global, call: &str, told: &mut String) {
         if is_asking(call) {
-            answer_asking(alloc, &mut self.asking, call, told)
+            answer_asking(rt, alloc, &mut self.asking, call, told);
         } else {
-            answer_process(alloc, &mut self.calls, call, told)
+            answer_process(rt, alloc, &mut self.calls, call, told);
         }
     }
 }
@@ -172,50 +176,51 @@ fn is_asking(call: &str) -> bool {
     call == "rewrites" || call.starts_with("ask ") || call.starts_with("take ")
 }
 
-fn number(word: &str) -> Result<u64, Fail>
-    ensures { IfOk result (λ n. n < 100) }
+fn number(rt: &impl Abort, word: &str) -> u64
+    ensures { result < 100 }
 {
-    match number_of(word.as_bytes(), 100) {
-        Some(number) => Ok(number),
-        None => Err(Fail::new("no number")),
-    }
+    number_of(word.as_bytes(), 100).expect(rt, "a number")
 }
 
 // Puts down what a question came to.
-fn put_rewriting(told: &mut String, rewriting: &Rewriting) -> Result<(), Fail> {
-    match rewriting {
-        Rewriting::Same(None) => told.push_str("same")?,
-        Rewriting::Same(Some(cause)) => write!(told, "same {cause:?}")?,
-        Rewriting::New(request) => write!(told, "new {}", request.target)?,
-        Rewriting::Redirect(status, url) => write!(told, "redirect {status} {url}")?,
-    }
-    Ok(())
+fn put_rewriting(rt: &impl Abort, told: &mut String, rewriting: &Rewriting) {
+    let put = match rewriting {
+        Rewriting::Same(None) => told.push_str("same"),
+        Rewriting::Same(Some(cause)) => write!(told, "same {cause:?}"),
+        Rewriting::New(request) => write!(told, "new {}", request.target),
+        Rewriting::Redirect(status, url) => write!(told, "redirect {status} {url}"),
+    };
+    put.expect(rt, "memory");
+}
+
+// Puts down why a call was not made.
+fn put_fault(rt: &impl Abort, told: &mut String, fault: RewriteFault) {
+    write!(told, "{fault}").expect(rt, "memory");
 }
 
 // Puts down what a take answers.
-fn put_taken(told: &mut String, gave: Result<Option<Rewriting>, RewriteFault>) -> Result<(), Fail> {
+fn put_taken(rt: &impl Abort, told: &mut String, gave: Result<Option<Rewriting>, RewriteFault>) {
     match gave {
-        Ok(Some(rewriting)) => put_rewriting(told, &rewriting),
-        Ok(None) => Ok(told.push_str("waits")?),
-        Err(fault) => Ok(write!(told, "{fault}")?),
+        Ok(Some(rewriting)) => put_rewriting(rt, told, &rewriting),
+        Ok(None) => append(rt, told, "waits"),
+        Err(fault) => put_fault(rt, told, fault),
     }
 }
 
 // Puts down a number that a call gives.
-fn put_number(told: &mut String, gave: Result<u64, RewriteFault>) -> Result<(), Fail> {
+fn put_number(rt: &impl Abort, told: &mut String, gave: Result<u64, RewriteFault>) {
     match gave {
-        Ok(number) => write!(told, "{number}")?,
-        Err(fault) => write!(told, "{fault}")?,
+        Ok(number) => write!(told, "{number}").expect(rt, "memory"),
+        Err(fault) => put_fault(rt, told, fault),
     }
-    Ok(())
 }
 
 // Puts down what an act is.
-fn put_act(told: &mut String, act: Option<RewriteAct>) -> Result<(), Fail> {
-    match act {
-        None => Ok(told.push_str("none")?),
-        Some(RewriteAct::Start) => Ok(told.push_str("start")?),
-        Some(RewriteAct::Stop(ProcNo(proc))) => Ok(write!(told, "stop {proc}")?),
+fn put_act(rt: &impl Abort, told: &mut String, act: Option<RewriteAct>) {
+    let put = match act {
+        None => told.push_str("none"),
+        Some(RewriteAct::Start) => told.push_str("start"),
+        Some(RewriteAct::Stop(ProcNo(proc))) => write!(told, "stop {proc}"),
         Some(
             RewriteAct::Send {
                 proc: ProcNo(proc),
@@ -224,134 +229,146 @@ fn put_act(told: &mut String, act: Option<RewriteAct>) -> Result<(), Fail> {
                 ..
             },
         ) => {
-            let text = str::from_utf8(text.as_bytes())?;
-            Ok(write!(told, "send {proc} {question} {text}")?)
+            let text = str::from_utf8(text.as_bytes()).expect(rt, "UTF-8");
+            write!(told, "send {proc} {question} {text}")
         }
-    }
+    };
+    put.expect(rt, "memory");
 }
 
 // Puts down what a line came to.
-fn put_got(told: &mut String, gave: Result<Got, RewriteFault>) -> Result<(), Fail> {
+fn put_got(rt: &impl Abort, told: &mut String, gave: Result<Got, RewriteFault>) {
     match gave {
-        Ok(Got::Reply(QuestionNo(question), _)) => Ok(write!(told, "reply {question}")?),
-        Ok(Got::Bad) => Ok(told.push_str("bad")?),
-        Ok(Got::Stray) => Ok(told.push_str("stray")?),
-        Err(fault) => Ok(write!(told, "{fault}")?),
+        Ok(Got::Reply(QuestionNo(question), _)) => {
+            write!(told, "reply {question}").expect(rt, "memory")
+        }
+        Ok(Got::Bad) => append(rt, told, "bad"),
+        Ok(Got::Stray) => append(rt, told, "stray"),
+        Err(fault) => put_fault(rt, told, fault),
     }
 }
 
 // Puts down that it was done, or why it was not.
-fn put_done(told: &mut String, gave: Result<(), RewriteFault>) -> Result<(), Fail> {
+fn put_done(rt: &impl Abort, told: &mut String, gave: Result<(), RewriteFault>) {
     match gave {
-        Ok(()) => told.push_str("ok")?,
-        Err(fault) => write!(told, "{fault}")?,
+        Ok(()) => append(rt, told, "ok"),
+        Err(fault) => put_fault(rt, told, fault),
     }
-    Ok(())
 }
 
 // Asks about a request for this target.
 fn ask<Q: Asking>(
+    rt: &impl Abort,
     alloc: Global,
     asking: &mut Q,
     target: &str,
-) -> Result<Result<u64, RewriteFault>, Fail> {
+) -> Result<u64, RewriteFault> {
     let fields = Fields::new(alloc);
-    let request = make_request(alloc, b"GET", target.as_bytes(), 1, fields)?;
-    match asking.ask_about(alloc, request)? {
-        Ok(QuestionNo(question)) => Ok(Ok(question)),
-        Err(fault) => Ok(Err(fault)),
+    let request = make_request(alloc, b"GET", target.as_bytes(), 1, fields).expect(rt, "a request");
+    match asking.ask_about(rt, alloc, request) {
+        Ok(QuestionNo(question)) => Ok(question),
+        Err(fault) => Err(fault),
     }
 }
 
 // Makes a call of a connection, and puts down what it answers.
 fn answer_asking<Q: Asking>(
+    rt: &impl Abort,
     alloc: Global,
     asking: &mut Q,
     call: &str,
     told: &mut String,
-) -> Result<(), Fail> {
+) {
     match call.split_once(' ') {
-        Some(("ask", target)) => put_number(told, ask(alloc, asking, target)?),
+        Some(("ask", target)) => put_number(rt, told, ask(rt, alloc, asking, target)),
         Some(("take", question)) => {
-            put_taken(told, asking.take_answer(QuestionNo(number(question)?)))
+            let question = QuestionNo(number(rt, question));
+            put_taken(rt, told, asking.take_answer(question))
         }
-        _ => Ok(told.push_str(if asking.rewrites() { "yes" } else { "no" })?),
+        _ => append(rt, told, if asking.rewrites() { "yes" } else { "no" }),
     }
 }
 
 // The number of the process that was started.
 fn started<K: RewriterCalls>(alloc: Global, calls: &mut K) -> Result<u64, RewriteFault> {
-    let ProcNo(proc) = calls.started(alloc)?;
-    Ok(proc)
+    match calls.started(alloc) {
+        Ok(ProcNo(proc)) => Ok(proc),
+        Err(fault) => Err(fault),
+    }
 }
 
 // Makes a call for a process, and puts down what it answers.
 fn answer_process<K: RewriterCalls>(
+    rt: &impl Abort,
     alloc: Global,
     calls: &mut K,
     call: &str,
     told: &mut String,
-) -> Result<(), Fail> {
+) {
     match call {
-        "act" => put_act(told, calls.act()),
-        "started" => put_number(told, started(alloc, calls)),
-        "failed" => put_done(told, calls.start_failed()),
-        _ => answer_one(alloc, calls, call, told),
+        "act" => put_act(rt, told, calls.act()),
+        "started" => put_number(rt, told, started(alloc, calls)),
+        "failed" => put_done(rt, told, calls.start_failed()),
+        _ => answer_one(rt, alloc, calls, call, told),
     }
 }
 
 // Makes a call for a process that is named.
 fn answer_one<K: RewriterCalls>(
+    rt: &impl Abort,
     alloc: Global,
     calls: &mut K,
     call: &str,
     told: &mut String,
-) -> Result<(), Fail> {
-    let (name, words) = call.split_once(' ').ok_or("no call")?;
+) {
+    let (name, words) = call.split_once(' ').expect(rt, "a call");
     if name == "died" {
-        return put_done(told, calls.died(ProcNo(number(words)?)));
+        let proc = ProcNo(number(rt, words));
+        put_done(rt, told, calls.died(proc));
+    } else {
+        let (proc, line) = words.split_once(' ').expect(rt, "a line");
+        let proc = ProcNo(number(rt, proc));
+        put_got(rt, told, calls.line(alloc, proc, line.as_bytes()));
     }
-    let (proc, line) = words.split_once(' ').ok_or("no line")?;
-    let proc = ProcNo(number(proc)?);
-    put_got(told, calls.line(alloc, proc, line.as_bytes()))
 }
 
 // The calls of the table, each with what it answers here.
-fn told<W: Answering>(alloc: Global, rewriter: &mut W) -> Result<String, Fail> {
+fn told<W: Answering>(rt: &impl Abort, alloc: Global, rewriter: &mut W) -> String {
     let mut told = String::new(alloc);
     for row in CALLS.lines() {
-        let (call, _wanted) = row.split_once(" => ").ok_or("no answer")?;
-        write!(told, "{call} => ")?;
-        rewriter.answer(alloc, call, &mut told)?;
-        told.push('\n')?;
+        let (call, _wanted) = row.split_once(" => ").expect(rt, "an answer");
+        append(rt, &mut told, call);
+        append(rt, &mut told, " => ");
+        rewriter.answer(rt, alloc, call, &mut told);
+        append(rt, &mut told, "\n");
     }
-    Ok(told)
+    told
 }
 
 // The rewriter of this configuration.
-fn rewriter_of(alloc: Global, config: &Config) -> Result<Rewriter, Fail> {
+fn rewriter_of(rt: &impl Abort, alloc: Global, config: &Config) -> Rewriter {
     match config.rewriter() {
-        Some(class) => Ok(Rewriter::new(alloc, class)),
-        None => Err(Fail::new("no rewriter")),
+        Some(class) => Rewriter::new(alloc, class),
+        None => panic!(rt; "no rewriter"),
     }
 }
 
 // What is told of the calls of the rewriter itself.
-fn told_plain(alloc: Global) -> Result<String, Fail> {
-    let setup = setup_of(alloc, CONF.as_bytes())?;
-    let mut rewriter = rewriter_of(alloc, setup.config())?;
-    told(alloc, &mut rewriter)
+fn told_plain(rt: &impl Abort, alloc: Global) -> String {
+    let setup = setup_of(rt, alloc, CONF.as_bytes());
+    let mut rewriter = rewriter_of(rt, alloc, setup.config());
+    told(rt, alloc, &mut rewriter)
 }
 
 // What is told of the calls behind the lock.
-fn run_hub<'x, R: Wait, D: DeskCalls, B: Ledgers>(
+fn run_hub<'x, R: Wait + Abort, D: DeskCalls, B: Ledgers>(
     rt: &'x R,
     alloc: Global,
     rewriter: &'x RewriterRoom,
     room: &'x Room<D, B>,
     bank: &'x Mutex<Bank<Grants<B>>>,
     wholes: Wholes<B>,
-) -> Result<String, Fail>
+) -> String
     requires asked { (wholes.asked.parts ≡ 1) × (wholes.asked.amount ≡ 0) }
     requires refused { wholes.refused.parts ≡ CALLERS }
     requires granted { (wholes.granted.parts ≡ 1) × (wholes.granted.amount ≡ 0) }
@@ -371,18 +388,18 @@ fn run_hub<'x, R: Wait, D: DeskCalls, B: Ledgers>(
         asking: Behind { hub },
         calls: LockRewriter::new(rt, rewriter),
     };
-    told(alloc, &mut locked)
+    told(rt, alloc, &mut locked)
 }
 
 // What is told of the calls behind the lock, beside this desk.
-fn run_locked<R: Wait, D: DeskCalls + Drop, B: Ledgers>(
+fn run_locked<R: Wait + Abort, D: DeskCalls + Drop, B: Ledgers>(
     rt: &R,
     alloc: Global,
     rewriter: Rewriter,
     desk: D,
     pools: (Pools, TagPools),
     blanks: Blanks,
-) -> Result<String, Fail>
+) -> String
     requires asks { (blanks.asks.name ≡ B.asks.name) × (blanks.asks.parts ≡ B.asks.parts)
         × (B.asks.parts ≡ 1) }
     requires makes { (blanks.makes.name ≡ B.makes.name) × (blanks.makes.parts ≡ B.makes.parts) }
@@ -402,12 +419,12 @@ fn run_locked<R: Wait, D: DeskCalls + Drop, B: Ledgers>(
 }
 
 // What is told of the calls behind the lock, by parts of their own.
-fn run_behind<R: Wait, F: DeskStart, B: Ledgers>(
+fn run_behind<R: Wait + Abort, F: DeskStart, B: Ledgers>(
     rt: &R,
     alloc: Global,
     setup: Setup,
     blanks: Blanks,
-) -> Result<String, Fail>
+) -> String
     requires first { F.first ≡ record { config = setup; offset = pos 0 } }
     requires asks { (blanks.asks.name ≡ B.asks.name) × (blanks.asks.parts ≡ B.asks.parts)
         × (B.asks.parts ≡ 1) }
@@ -418,23 +435,22 @@ fn run_behind<R: Wait, F: DeskStart, B: Ledgers>(
     requires grants { (blanks.grants.name ≡ B.grants.name) × (blanks.grants.parts ≡ B.grants.parts)
         × (B.grants.parts ≡ 1) }
 {
-    let rewriter = rewriter_of(alloc, setup.config())?;
-    let pools = pools_of(alloc, setup.config())?;
-    let desk = begin::<F>(alloc, setup)?;
+    let rewriter = rewriter_of(rt, alloc, setup.config());
+    let pools = pools_of(rt, alloc, setup.config());
+    let desk = begin::<R, F>(rt, alloc, setup);
     run_locked::<R, Desk<MemJournal, F>, B>(rt, alloc, rewriter, desk, pools, blanks)
 }
 
 // What is told of the calls behind the lock.
-fn told_locked<R: Wait>(rt: &R, alloc: Global) -> Result<String, Fail> {
-    let setup = setup_of(alloc, CONF.as_bytes())?;
+fn told_locked<R: Wait + Abort>(rt: &R, alloc: Global) -> String {
+    let setup = setup_of(rt, alloc, CONF.as_bytes());
     run_behind::<R, Brand, Brand>(rt, alloc, setup, Blanks::new())
 }
 
 #[test]
-fn each_call_behind_the_lock_is_that_of_the_rewriter(rt: HostRuntime) -> Result<(), Fail> {
-    let plain = told_plain(rt.alloc())?;
+fn each_call_behind_the_lock_is_that_of_the_rewriter(rt: HostRuntime) {
+    let plain = told_plain(&rt, rt.alloc());
     assert!(rt; plain.as_str() == CALLS, "{plain}");
-    let locked = told_locked(&rt, rt.alloc())?;
+    let locked = told_locked(&rt, rt.alloc());
     assert!(rt; locked.as_str() == CALLS, "{locked}");
-    Ok(())
 }

@@ -5,6 +5,7 @@ ghost use Rattle.sq_pools.specs.Basins.{has_pool, has_tag_pool};
 ghost use Rattle.sq_shared.specs.Books.{AreCounted};
 
 use crate::calls::setup_of;
+use crate::desks::append;
 use crate::locked::{begin, text_of};
 use crate::locks::{Blanks, CALLERS, Wholes, lock, pools_of};
 use sq_base::{Addr, EpochNo, Moment, Text};
@@ -21,9 +22,9 @@ use sq_urlmatch::Setup;
 use sq_workers::LockHub;
 use std::alloc::Global;
 use std::marker::Brand;
+use std::process::Abort;
 use std::sync::ledger::Share;
 use std::sync::{Arc, Mutex, Wait};
-use std::test::Fail;
 
 /// Two delay pools with buckets by addresses, which begin empty, and two with buckets by tags, which do so, too: 100 bytes come to
 /// a bucket of the first of both in a second, and 10 to one of the second.
@@ -100,14 +101,15 @@ impl Place {
 /// The calls of delay pools, each at the next moment of a clock where it has one.
 trait Giving {
     /// A seat of the client, or of the tag.
-    fn give_seat(
+    fn give_seat<R: Abort>(
         &mut self,
+        rt: &R,
         alloc: Global,
         epoch: EpochNo,
         config: &Arc<Config>,
         pool: u32,
         tag: &Text,
-    ) -> Result<Place, Fail>;
+    ) -> Place;
 
     fn give_bytes(&mut self, place: &Place, wanted: u64) -> u64;
 
@@ -125,24 +127,23 @@ struct Timed {
 }
 
 impl Giving for Timed {
-    fn give_seat(
+    fn give_seat<R: Abort>(
         &mut self,
+        rt: &R,
         alloc: Global,
         epoch: EpochNo,
         config: &Arc<Config>,
         pool: u32,
         tag: &Text,
-    ) -> Result<Place, Fail> {
+    ) -> Place {
         let now = self.clock.now();
         if is_tagged(config, pool) {
-            let seat = self.tags.choose(alloc, epoch, config, pool, tag, now)?;
-            return Ok(Place::Tagged(seat));
+            let seat = self.tags.choose(alloc, epoch, config, pool, tag, now);
+            return Place::Tagged(seat.expect(rt, "a seat"));
         }
-        if takes(config, pool, CLIENT) {
-            let seat = self.pools.choose(alloc, epoch, config, pool, CLIENT, now)?;
-            return Ok(Place::Host(seat));
-        }
-        Err(Fail::new("no such pool"))
+        assert!(rt; takes(config, pool, CLIENT), "no such pool");
+        let seat = self.pools.choose(alloc, epoch, config, pool, CLIENT, now);
+        Place::Host(seat.expect(rt, "a seat"))
     }
 
     fn give_bytes(&mut self, place: &Place, wanted: u64) -> u64 {
@@ -175,23 +176,22 @@ struct Behind<H> {
 }
 
 impl<H: Hub> Giving for Behind<H> {
-    fn give_seat(
+    fn give_seat<R: Abort>(
         &mut self,
+        rt: &R,
         alloc: Global,
         epoch: EpochNo,
         config: &Arc<Config>,
         pool: u32,
         tag: &Text,
-    ) -> Result<Place, Fail> {
+    ) -> Place {
         if is_tagged(config, pool) {
-            let seat = self.hub.choose_tag(alloc, epoch, config, pool, tag)?;
-            return Ok(Place::Tagged(seat));
+            let seat = self.hub.choose_tag(alloc, epoch, config, pool, tag);
+            return Place::Tagged(seat.expect(rt, "a seat"));
         }
-        if takes(config, pool, CLIENT) {
-            let seat = self.hub.choose(alloc, epoch, config, pool, CLIENT)?;
-            return Ok(Place::Host(seat));
-        }
-        Err(Fail::new("no such pool"))
+        assert!(rt; takes(config, pool, CLIENT), "no such pool");
+        let seat = self.hub.choose(alloc, epoch, config, pool, CLIENT);
+        Place::Host(seat.expect(rt, "a seat"))
     }
 
     fn give_bytes(&mut self, place: &Place, wanted: u64) -> u64 {
@@ -226,22 +226,23 @@ const REST: [Moment; 8] = [
 ];
 
 // The clock of the calls.
-fn clock(alloc: Global) -> Result<MemClock, Fail> {
-    let rest = Vec::from_slice(alloc, REST.as_slice())?;
-    Ok(MemClock::new(alloc, Moment(2000), rest))
+fn clock(rt: &impl Abort, alloc: Global) -> MemClock {
+    let rest = Vec::from_slice(alloc, REST.as_slice()).expect(rt, "memory");
+    MemClock::new(alloc, Moment(2000), rest)
 }
 
 // Gives a seat of the client, or of this tag.
 fn seat<P: Giving>(
+    rt: &impl Abort,
     alloc: Global,
     pools: &mut P,
     epoch: EpochNo,
     config: &Arc<Config>,
     pool: u32,
     tag: &[u8],
-) -> Result<Place, Fail> {
-    let tag = Text::from_slice(alloc, tag)?;
-    pools.give_seat(alloc, epoch, config, pool, &tag)
+) -> Place {
+    let tag = Text::from_slice(alloc, tag).expect(rt, "memory");
+    pools.give_seat(rt, alloc, epoch, config, pool, &tag)
 }
 
 // The places of the two pools of a case, and its call.
@@ -254,40 +255,40 @@ fn pools_and_call(case: &str) -> (u32, u32, &str) {
 
 // Gives two seats and then makes the call of a case: what it answers.
 fn run_case<P: Giving>(
+    rt: &impl Abort,
     alloc: Global,
     pools: &mut P,
     config: &Arc<Config>,
     case: &str,
-) -> Result<Option<u64>, Fail> {
+) -> Option<u64> {
     let (one, two, call) = pools_and_call(case);
-    let _first = seat(alloc, pools, EpochNo(1), config, one, b"gold")?;
-    let second = seat(alloc, pools, EpochNo(2), config, two, b"gold")?;
+    let _first = seat(rt, alloc, pools, EpochNo(1), config, one, b"gold");
+    let second = seat(rt, alloc, pools, EpochNo(2), config, two, b"gold");
     match call {
         "choose" => {
-            let third = seat(alloc, pools, EpochNo(2), config, two, b"iron")?;
-            Ok(Some(third.number()))
+            let third = seat(rt, alloc, pools, EpochNo(2), config, two, b"iron");
+            Some(third.number())
         }
-        "grant" => Ok(Some(pools.give_bytes(&second, 500))),
+        "grant" => Some(pools.give_bytes(&second, 500)),
         "rest" => {
             let _all = pools.give_bytes(&second, 500);
             let _none = pools.give_bytes(&second, 500);
             pools.rest();
-            Ok(Some(pools.give_bytes(&second, 500)))
+            Some(pools.give_bytes(&second, 500))
         }
         _ => {
             pools.take_seat(second);
-            Ok(None)
+            None
         }
     }
 }
 
 // Puts down a number, or that there is none.
-fn put(text: &mut String, number: Option<u64>) -> Result<(), Fail> {
+fn put(rt: &impl Abort, text: &mut String, number: Option<u64>) {
     match number {
-        Some(number) => write!(text, "{number}")?,
-        None => text.push('-')?,
+        Some(number) => write!(text, "{number}").expect(rt, "memory"),
+        None => append(rt, text, "-"),
     }
-    Ok(())
 }
 
 // The level of a seat's bucket.
@@ -300,42 +301,45 @@ fn level(pools: &Pools, tags: &TagPools, place: &Place) -> Option<u64> {
 
 // What is told of pools: the answer, and the levels of the buckets of the seats 1, 2 and 3.
 fn told(
+    rt: &impl Abort,
     alloc: Global,
     config: &Arc<Config>,
     pools: &Pools,
     tags: &TagPools,
     case: &str,
-    answer: Result<Option<u64>, Fail>,
-) -> Result<String, Fail> {
-    let answer = answer?;
+    answer: Option<u64>,
+) -> String {
     let (one, two, _call) = pools_and_call(case);
-    let mut others = timed_pools(alloc, config)?;
+    let mut others = timed_pools(rt, alloc, config);
     let mut text = String::new(alloc);
-    put(&mut text, answer)?;
+    put(rt, &mut text, answer);
     for (epoch, pool) in [(EpochNo(1), one), (EpochNo(2), two), (EpochNo(2), two)] {
-        let place = seat(alloc, &mut others, epoch, config, pool, b"gold")?;
-        text.push(' ')?;
-        put(&mut text, level(pools, tags, &place))?;
+        let place = seat(rt, alloc, &mut others, epoch, config, pool, b"gold");
+        append(rt, &mut text, " ");
+        put(rt, &mut text, level(pools, tags, &place));
     }
-    Ok(text)
+    text
 }
 
 // Pools with the first epoch's buckets, and the clock of the calls.
-fn timed_pools(alloc: Global, config: &Arc<Config>) -> Result<Timed, Fail> {
-    let (pools, tags) = pools_of(alloc, config)?;
-    let clock = clock(alloc)?;
-    Ok(Timed { pools, tags, clock })
+fn timed_pools(rt: &impl Abort, alloc: Global, config: &Arc<Config>) -> Timed {
+    let (pools, tags) = pools_of(rt, alloc, config);
+    Timed {
+        pools,
+        tags,
+        clock: clock(rt, alloc),
+    }
 }
 
 // What is told of the calls of the pools themselves.
-fn told_plain(alloc: Global, config: &Arc<Config>, case: &str) -> Result<String, Fail> {
-    let mut timed = timed_pools(alloc, config)?;
-    let answer = run_case(alloc, &mut timed, config, case);
-    told(alloc, config, &timed.pools, &timed.tags, case, answer)
+fn told_plain(rt: &impl Abort, alloc: Global, config: &Arc<Config>, case: &str) -> String {
+    let mut timed = timed_pools(rt, alloc, config);
+    let answer = run_case(rt, alloc, &mut timed, config, case);
+    told(rt, alloc, config, &timed.pools, &timed.tags, case, answer)
 }
 
 // What the call of a case answers behind the lock, and the share of what was granted.
-fn run_hub<'x, R: Wait, D: DeskCalls, B: Ledgers>(
+fn run_hub<'x, R: Wait + Abort, D: DeskCalls, B: Ledgers>(
     rt: &'x R,
     alloc: Global,
     config: &Arc<Config>,
@@ -344,7 +348,7 @@ fn run_hub<'x, R: Wait, D: DeskCalls, B: Ledgers>(
     clock: MemClock,
     wholes: Wholes<B>,
     case: &str,
-) -> (Result<Option<u64>, Fail>, Share<Grants<B>>)
+) -> (Option<u64>, Share<Grants<B>>)
     requires asked { (wholes.asked.parts ≡ 1) × (wholes.asked.amount ≡ 0) }
     requires refused { wholes.refused.parts ≡ CALLERS }
     requires granted { (wholes.granted.parts ≡ 1) × (wholes.granted.amount ≡ 0) }
@@ -359,12 +363,12 @@ fn run_hub<'x, R: Wait, D: DeskCalls, B: Ledgers>(
     let one = refused.split_off(1, 0);
     let hub = LockHub::new(rt, room, bank, None, clock, asked, one, granted);
     let mut behind = Behind { hub };
-    let answer = run_case(alloc, &mut behind, config, case);
+    let answer = run_case(rt, alloc, &mut behind, config, case);
     (answer, behind.hub.finish().granted)
 }
 
 // What is told of the calls of the pools behind their lock.
-fn run_locked<R: Wait, D: DeskCalls + Drop, B: Ledgers>(
+fn run_locked<R: Wait + Abort, D: DeskCalls + Drop, B: Ledgers>(
     rt: &R,
     alloc: Global,
     config: &Arc<Config>,
@@ -373,7 +377,7 @@ fn run_locked<R: Wait, D: DeskCalls + Drop, B: Ledgers>(
     clock: MemClock,
     blanks: Blanks,
     case: &str,
-) -> Result<String, Fail>
+) -> String
     requires asks { (blanks.asks.name ≡ B.asks.name) × (blanks.asks.parts ≡ B.asks.parts)
         × (B.asks.parts ≡ 1) }
     requires makes { (blanks.makes.name ≡ B.makes.name) × (blanks.makes.parts ≡ B.makes.parts) }
@@ -390,18 +394,18 @@ fn run_locked<R: Wait, D: DeskCalls + Drop, B: Ledgers>(
     let (room, bank, wholes) = lock::<D, B>(alloc, desk, pools, blanks);
     let (answer, granted) = run_hub(rt, alloc, config, &room, &bank, clock, wholes, case);
     let (pools, tags) = bank.into_inner().end(granted);
-    told(alloc, config, &pools, &tags, case, answer)
+    told(rt, alloc, config, &pools, &tags, case, answer)
 }
 
 // What is told of the calls of the pools behind their lock.
-fn run_behind<R: Wait, F: DeskStart, B: Ledgers>(
+fn run_behind<R: Wait + Abort, F: DeskStart, B: Ledgers>(
     rt: &R,
     alloc: Global,
     config: &Arc<Config>,
     setup: Setup,
     blanks: Blanks,
     case: &String,
-) -> Result<String, Fail>
+) -> String
     requires first { F.first ≡ record { config = setup; offset = pos 0 } }
     requires asks { (blanks.asks.name ≡ B.asks.name) × (blanks.asks.parts ≡ B.asks.parts)
         × (B.asks.parts ≡ 1) }
@@ -412,9 +416,9 @@ fn run_behind<R: Wait, F: DeskStart, B: Ledgers>(
     requires grants { (blanks.grants.name ≡ B.grants.name) × (blanks.grants.parts ≡ B.grants.parts)
         × (B.grants.parts ≡ 1) }
 {
-    let clock = clock(alloc)?;
-    let pools = pools_of(alloc, config)?;
-    let desk = begin::<F>(alloc, setup)?;
+    let clock = clock(rt, alloc);
+    let pools = pools_of(rt, alloc, config);
+    let desk = begin::<R, F>(rt, alloc, setup);
     run_locked::<R, Desk<MemJournal, F>, B>(
         rt,
         alloc,
@@ -428,26 +432,30 @@ fn run_behind<R: Wait, F: DeskStart, B: Ledgers>(
 }
 
 // What is told of the calls of the pools behind their lock.
-fn told_locked<R: Wait>(
+fn told_locked<R: Wait + Abort>(
     rt: &R,
     alloc: Global,
     config: &Arc<Config>,
     case: &String,
-) -> Result<String, Fail> {
-    let setup = setup_of(alloc, CONF.as_bytes())?;
+) -> String {
+    let setup = setup_of(rt, alloc, CONF.as_bytes());
     run_behind::<R, Brand, Brand>(rt, alloc, config, setup, Blanks::new(), case)
 }
 
+// Ends the process unless this is told of the calls of the pools themselves, and of those behind their lock.
+fn check<R: Wait + Abort>(rt: &R, alloc: Global, config: &Arc<Config>, case: &str, wanted: &str) {
+    let plain = told_plain(rt, alloc, config, case);
+    assert!(rt; plain.as_str() == wanted, "{case}: {plain}");
+    let text = text_of(rt, alloc, case);
+    let locked = told_locked(rt, alloc, config, &text);
+    assert!(rt; locked.as_str() == wanted, "{case}: {locked}");
+}
+
 #[test]
-fn each_call_behind_the_lock_is_that_of_the_pools(rt: HostRuntime) -> Result<(), Fail> {
-    let setup = setup_of(rt.alloc(), CONF.as_bytes())?;
+fn each_call_behind_the_lock_is_that_of_the_pools(rt: HostRuntime) {
+    let setup = setup_of(&rt, rt.alloc(), CONF.as_bytes());
     for row in CASES.lines() {
-        let (case, wanted) = row.split_once(" => ").ok_or("no answer")?;
-        let plain = told_plain(rt.alloc(), setup.config(), case)?;
-        assert!(rt; plain.as_str() == wanted, "{case}: {plain}");
-        let text = text_of(rt.alloc(), case)?;
-        let locked = told_locked(&rt, rt.alloc(), setup.config(), &text)?;
-        assert!(rt; locked.as_str() == wanted, "{case}: {locked}");
+        let (case, wanted) = row.split_once(" => ").expect(&rt, "an answer");
+        check(&rt, rt.alloc(), setup.config(), case, wanted);
     }
-    Ok(())
 }

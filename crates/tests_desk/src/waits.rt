@@ -5,7 +5,7 @@ ghost use Rattle.std.specs.Option.{ForSome};
 ghost use Rattle.sq_shared.specs.Books.{AreCounted};
 
 use crate::calls::setup_of;
-use crate::desks::{helper_mark, hub_mark};
+use crate::desks::{append, helper_mark, hub_mark};
 use crate::locked::{begin_failing, text_of};
 use crate::locks::{Blanks, CALLERS, Wholes, lock, pools_of};
 use sq_base::{Moment, QuestionNo};
@@ -25,7 +25,6 @@ use std::marker::Brand;
 use std::process::Abort;
 use std::sync::ledger::Blank;
 use std::sync::{Mutex, Wait};
-use std::test::Fail;
 
 /// Two classes, of which `v` is asked at port 80 and `w` at port 81.
 static CONF: &str = "external_acl_type v %>rd /bin/h
@@ -152,12 +151,12 @@ fn blanks() -> Blanks
 }
 
 // The mark of a line whose call a connection makes, or of its wait.
-fn session_mark<H: Hub>(alloc: Global, hub: &mut H, line: &str) -> Result<&'static str, Fail> {
+fn session_mark<H: Hub>(rt: &impl Abort, alloc: Global, hub: &mut H, line: &str) -> &'static str {
     if line == "wait" {
         hub.wait();
-        return Ok(".");
+        return ".";
     }
-    hub_mark(alloc, hub, line)
+    hub_mark(rt, alloc, hub, line)
 }
 
 // The mark of a question: `.` where it is awaited as `wanted` says.
@@ -208,7 +207,7 @@ fn tell_mark<R: Wait, D: DeskCalls, B: Ledgers>(
 }
 
 // The mark of a row.
-fn row_mark<R: Wait, D: DeskCalls, B: Ledgers, K: HelperCalls, H: Hub, I: Hub>(
+fn row_mark<R: Wait + Abort, D: DeskCalls, B: Ledgers, K: HelperCalls, H: Hub, I: Hub>(
     rt: &R,
     alloc: Global,
     room: &Room<D, B>,
@@ -217,21 +216,21 @@ fn row_mark<R: Wait, D: DeskCalls, B: Ledgers, K: HelperCalls, H: Hub, I: Hub>(
     two: &mut I,
     seen: &mut u64,
     row: &str,
-) -> Result<&'static str, Fail> {
+) -> &'static str {
     match row.split_at_checked(2) {
-        Some(("d ", line)) => helper_mark(alloc, desk, line),
-        Some(("1 ", line)) => session_mark(alloc, one, line),
-        Some(("2 ", line)) => session_mark(alloc, two, line),
-        Some(("+ ", question)) => Ok(awaited_mark(rt, room, question, true)),
-        Some(("- ", question)) => Ok(awaited_mark(rt, room, question, false)),
-        Some(("p ", line)) => Ok(pump_mark(rt, room, seen, line)),
-        Some(("k ", line)) => Ok(tell_mark(rt, room, line)),
-        _ => Ok("?"),
+        Some(("d ", line)) => helper_mark(rt, alloc, desk, line),
+        Some(("1 ", line)) => session_mark(rt, alloc, one, line),
+        Some(("2 ", line)) => session_mark(rt, alloc, two, line),
+        Some(("+ ", question)) => awaited_mark(rt, room, question, true),
+        Some(("- ", question)) => awaited_mark(rt, room, question, false),
+        Some(("p ", line)) => pump_mark(rt, room, seen, line),
+        Some(("k ", line)) => tell_mark(rt, room, line),
+        _ => "?",
     }
 }
 
 // The marks of all rows.
-fn run_rows<R: Wait, D: DeskCalls, B: Ledgers, K: HelperCalls, H: Hub, I: Hub>(
+fn run_rows<R: Wait + Abort, D: DeskCalls, B: Ledgers, K: HelperCalls, H: Hub, I: Hub>(
     rt: &R,
     alloc: Global,
     room: &Room<D, B>,
@@ -239,14 +238,14 @@ fn run_rows<R: Wait, D: DeskCalls, B: Ledgers, K: HelperCalls, H: Hub, I: Hub>(
     one: &mut H,
     two: &mut I,
     rows: &str,
-) -> Result<String, Fail> {
+) -> String {
     let mut marks = String::new(alloc);
     let mut seen = 0u64;
     for row in rows.lines() {
-        let mark = row_mark(rt, alloc, room, desk, one, two, &mut seen, row)?;
-        marks.push_str(mark)?;
+        let mark = row_mark(rt, alloc, room, desk, one, two, &mut seen, row);
+        append(rt, &mut marks, mark);
     }
-    Ok(marks)
+    marks
 }
 
 // A clock that stands at 5.
@@ -255,14 +254,14 @@ fn clock(alloc: Global) -> MemClock {
 }
 
 // The marks of all rows, of two connections and a desk that have these shares.
-fn run_shared<'x, R: Wait, D: DeskCalls, B: Ledgers>(
+fn run_shared<'x, R: Wait + Abort, D: DeskCalls, B: Ledgers>(
     rt: &'x R,
     alloc: Global,
     room: &'x Room<D, B>,
     bank: &'x Mutex<Bank<Grants<B>>>,
     wholes: Wholes<B>,
     rows: &str,
-) -> Result<String, Fail>
+) -> String
     requires asked { (wholes.asked.parts ≡ 2) × (wholes.asked.amount ≡ 0) }
     requires refused { wholes.refused.parts ≡ CALLERS }
     requires granted { (wholes.granted.parts ≡ 2) × (wholes.granted.amount ≡ 0) }
@@ -284,14 +283,14 @@ fn run_shared<'x, R: Wait, D: DeskCalls, B: Ledgers>(
 }
 
 // The marks of all rows behind a lock.
-fn run_locked<R: Wait, D: DeskCalls + Drop, B: Ledgers>(
+fn run_locked<R: Wait + Abort, D: DeskCalls + Drop, B: Ledgers>(
     rt: &R,
     alloc: Global,
     desk: D,
     pools: (Pools, TagPools),
     blanks: Blanks,
     rows: &str,
-) -> Result<String, Fail>
+) -> String
     requires asks { (blanks.asks.name ≡ B.asks.name) × (blanks.asks.parts ≡ B.asks.parts)
         × (B.asks.parts ≡ 2) }
     requires makes { (blanks.makes.name ≡ B.makes.name) × (blanks.makes.parts ≡ B.makes.parts) }
@@ -310,14 +309,14 @@ fn run_locked<R: Wait, D: DeskCalls + Drop, B: Ledgers>(
 }
 
 // The marks of all rows behind the lock of a desk over this setup.
-fn run_behind<R: Wait, F: DeskStart, B: Ledgers>(
+fn run_behind<R: Wait + Abort, F: DeskStart, B: Ledgers>(
     rt: &R,
     alloc: Global,
     setup: Setup,
     blanks: Blanks,
     fails: Vec<u64>,
     rows: &String,
-) -> Result<String, Fail>
+) -> String
     requires first { F.first ≡ record { config = setup; offset = pos 0 } }
     requires asks { (blanks.asks.name ≡ B.asks.name) × (blanks.asks.parts ≡ B.asks.parts)
         × (B.asks.parts ≡ 2) }
@@ -328,53 +327,45 @@ fn run_behind<R: Wait, F: DeskStart, B: Ledgers>(
     requires grants { (blanks.grants.name ≡ B.grants.name) × (blanks.grants.parts ≡ B.grants.parts)
         × (B.grants.parts ≡ 2) }
 {
-    let pools = pools_of(alloc, setup.config())?;
-    let desk = begin_failing::<F>(alloc, setup, fails)?;
+    let pools = pools_of(rt, alloc, setup.config());
+    let desk = begin_failing::<R, F>(rt, alloc, setup, fails);
     run_locked::<R, Desk<MemJournal, F>, B>(rt, alloc, desk, pools, blanks, rows.as_str())
 }
 
 // The marks of all rows, where these notes of the journal fail.
-fn marks<R: Wait>(rt: &R, alloc: Global, fails: &[u64], rows: &String) -> Result<String, Fail> {
-    let setup = setup_of(alloc, CONF.as_bytes())?;
-    let fails = Vec::from_slice(alloc, fails)?;
+fn marks<R: Wait + Abort>(rt: &R, alloc: Global, fails: &[u64], rows: &String) -> String {
+    let setup = setup_of(rt, alloc, CONF.as_bytes());
+    let fails = Vec::from_slice(alloc, fails).expect(rt, "memory");
     run_behind::<R, Brand, Brand>(rt, alloc, setup, blanks(), fails, rows)
 }
 
 // Ends the process unless these marks are told of these rows.
-fn check<R: Wait + Abort>(
-    rt: &R,
-    alloc: Global,
-    fails: &[u64],
-    rows: &str,
-    wanted: &str,
-) -> Result<(), Fail> {
-    let rows = text_of(alloc, rows)?;
-    let marks = marks(rt, alloc, fails, &rows)?;
+fn check<R: Wait + Abort>(rt: &R, alloc: Global, fails: &[u64], rows: &str, wanted: &str) {
+    let rows = text_of(rt, alloc, rows);
+    let marks = marks(rt, alloc, fails, &rows);
     assert!(rt; marks.as_str() == wanted, "{marks}");
-    Ok(())
 }
 
 #[test]
-fn an_answer_wakes_whom_it_concerns(rt: HostRuntime) -> Result<(), Fail> {
-    let text = text_of(rt.alloc(), ROWS)?;
-    let marks = marks(&rt, rt.alloc(), &[], &text)?;
+fn an_answer_wakes_whom_it_concerns(rt: HostRuntime) {
+    let text = text_of(&rt, rt.alloc(), ROWS);
+    let marks = marks(&rt, rt.alloc(), &[], &text);
     assert!(rt; marks.as_str().len() == ROWS.lines().count());
     assert!(rt; marks.as_str().bytes().all(|mark| mark == b'.'), "{marks}");
-    Ok(())
 }
 
 #[test]
-fn who_waits_learns_that_the_journal_failed(rt: HostRuntime) -> Result<(), Fail> {
-    check(&rt, rt.alloc(), &[6], STOPPED, ".....J..JJ")
+fn who_waits_learns_that_the_journal_failed(rt: HostRuntime) {
+    check(&rt, rt.alloc(), &[6], STOPPED, ".....J..JJ");
 }
 
 #[test]
-fn a_pump_that_is_told_while_it_turns_does_not_sleep(rt: HostRuntime) -> Result<(), Fail> {
+fn a_pump_that_is_told_while_it_turns_does_not_sleep(rt: HostRuntime) {
     check(
         &rt,
         rt.alloc(),
         &[],
         TOLD,
         ".............-.R...............",
-    )
+    );
 }

@@ -3,4 +3,4 @@ use Rattle.std.specs.Prelude.{pos}
 
 -- the desk begins with the configuration that was just made
 abbrev pub ghosts-run_job : goal.ghosts-run_job
-ghosts-run_job a = record { first = record { config = a.setup; offset = pos 0 } }
+ghosts-run_job g a = record { first = record { config = a.setup; offset = pos 0 } }
