@@ -4,6 +4,8 @@
     tests/costs.py run LOG COMMAND ..    runs the command, as `rt ci`, and writes to LOG what the prover's processes below it took
     tests/costs.py table LOG.. [--into FILE]
                                          prints the table of that; with FILE, puts it between its two comment lines `costs` there
+    tests/costs.py functions CRATE       prints what each function of a crate took in `rt check` or `rt test`, if nothing was kept
+                                         before (`rm -r crates/CRATE/out/incremental`): seconds, and megabytes to be proved
 
 The toolchain's own log has no times. So this looks at the processes twice a second: the time of a processor that each check took, with
 the processes that it began, and when it was first and last seen. A check is of a crate's proof, of its tests, or of an edit, which is tried in
@@ -207,6 +209,22 @@ def table(logs):
     return "\n".join([*lines, "", *textwrap.wrap(" ".join(said), 120, break_long_words=False)])
 
 
+def functions(crate):
+    """The functions of a crate by the seconds between the files that the prover wrote: it goes through them one by one."""
+    files = []
+    for path in glob.glob(f"{TOP}/crates/{crate}/out/incremental/*/Rattle-{crate}-proofs.*.oantt"):
+        *function, kind, _ = os.path.basename(path).partition("-proofs.")[2].split(".")
+        if function and kind not in ("Mir", "Code", "TheLink", "Symbol", "Key"):
+            it = os.stat(path)
+            files.append((it.st_mtime, ".".join(function), it.st_size if kind == "Lts" else 0))
+    files.sort()
+    took, size = {}, {}
+    for (before, _, _), (now, name, much) in zip(files, files[1:]):
+        took[name] = took.get(name, 0) + now - before
+        size[name] = size.get(name, 0) + much
+    return "\n".join(f"{took[it]:7.1f} s {size[it] / 1e6:7.2f} MB  {it}" for it in sorted(took, key=took.get, reverse=True))
+
+
 def put(text, file):
     with open(file, encoding="utf-8") as it:
         whole = it.read()
@@ -224,6 +242,9 @@ def main(words):
         logs, _, file = " ".join(words[1:]).partition(" --into ")
         text = table(logs.split())
         put(text, file) if file else print(text)
+        return 0
+    if words[:1] == ["functions"] and len(words) == 2:
+        print(functions(words[1]))
         return 0
     sys.exit(__doc__)
 
