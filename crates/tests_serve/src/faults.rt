@@ -1,12 +1,11 @@
 //! Devices that fail: each call of each of them in turn, and a sink that is full; and the codes of statuses.
 
 use crate::jobs::{Job, Ran, run};
-use sq_base::{Text, WantOfMemory};
+use sq_base::Text;
 use sq_proxy::Status;
 use sq_rules::Kind;
 use std::alloc::Global;
 use std::process::Abort;
-use std::test::Fail;
 
 const CONF: &str = "acl lan src 10.0.0.0/8\nhttp_access allow lan\n";
 
@@ -45,7 +44,7 @@ fn job<'a>() -> Job<'a> {
 }
 
 // Runs the job with the listed calls of a device failing.
-fn run_failing(alloc: Global, device: Device, calls: &[u64]) -> Result<Ran, WantOfMemory> {
+fn run_failing(rt: &impl Abort, alloc: Global, device: Device, calls: &[u64]) -> Ran {
     let job = job();
     let job = match device {
         Device::Files => Job {
@@ -65,11 +64,17 @@ fn run_failing(alloc: Global, device: Device, calls: &[u64]) -> Result<Ran, Want
             ..job
         },
     };
-    let ran = run(alloc, &job)?;
-    match ran.status {
-        Status::WantOfMemory => Err(WantOfMemory),
-        _ => Ok(ran),
-    }
+    run_job(rt, alloc, &job)
+}
+
+// Runs a job, and ends the process where there was no memory for it.
+fn run_job(rt: &impl Abort, alloc: Global, job: &Job<'_>) -> Ran {
+    let ran = run(rt, alloc, job);
+    assert!(rt;
+        !matches!(ran.status, Status::WantOfMemory),
+        "want of memory"
+    );
+    ran
 }
 
 /// The last line where a file was not read.
@@ -98,25 +103,23 @@ fn check_fault(rt: &impl Abort, device: Device, call: u64, ran: &Ran) {
 }
 
 // Lets each call of a device fail in turn, until no call fails, and gives the number of those that did.
-fn failing_calls(rt: &impl Abort, alloc: Global, device: Device) -> Result<u64, WantOfMemory> {
+fn failing_calls(rt: &impl Abort, alloc: Global, device: Device) -> u64 {
     for call in 1..LIMIT {
-        let ran = run_failing(alloc, device, &[call])?;
+        let ran = run_failing(rt, alloc, device, &[call]);
         if ran.status.code() == 0 {
             assert!(rt;
                 str::from_utf8(ran.out.bytes()) == Ok(RUN),
                 "{device:?}, call {call}"
             );
-            return Ok(call - 1);
+            return call - 1;
         }
         check_fault(rt, device, call, &ran);
     }
-    Ok(LIMIT)
+    LIMIT
 }
 
 #[test]
-fn each_call_of_a_device_that_fails_ends_the_run_with_its_status(
-    rt: HostRuntime,
-) -> Result<(), Fail> {
+fn each_call_of_a_device_that_fails_ends_the_run_with_its_status(rt: HostRuntime) {
     // Two files are opened, each is read in pieces and once more at its end, and the run is written in
     // pieces.
     for (device, least) in [
@@ -125,13 +128,12 @@ fn each_call_of_a_device_that_fails_ends_the_run_with_its_status(
         (Device::Script, 12),
         (Device::Sink, 21),
     ] {
-        let failed = failing_calls(&rt, rt.alloc(), device)?;
+        let failed = failing_calls(&rt, rt.alloc(), device);
         assert!(rt;
             least <= failed && failed < LIMIT,
             "{device:?}: {failed} calls"
         );
     }
-    Ok(())
 }
 
 // A job whose output is cut off, with the status and the bytes that stand.
@@ -143,9 +145,7 @@ struct Cut<'a> {
 }
 
 #[test]
-fn what_fits_is_written_and_a_last_line_that_fails_leaves_the_status(
-    rt: HostRuntime,
-) -> Result<(), Fail> {
+fn what_fits_is_written_and_a_last_line_that_fails_leaves_the_status(rt: HostRuntime) {
     for cut in &[
         Cut {
             job: Job { room: 30, ..job() },
@@ -212,19 +212,15 @@ fn what_fits_is_written_and_a_last_line_that_fails_leaves_the_status(
             out: "0 begin 0 => epoch 1\nerro",
         },
     ] {
-        let ran = run(rt.alloc(), &cut.job)?;
-        if let Status::WantOfMemory = ran.status {
-            return Err(WantOfMemory.into());
-        }
+        let ran = run_job(&rt, rt.alloc(), &cut.job);
         assert!(rt; ran.status.code() == cut.code, "{}", cut.out);
         assert!(rt; str::from_utf8(ran.out.bytes()) == Ok(cut.out));
     }
-    Ok(())
 }
 
 #[test]
-fn each_status_has_its_code(rt: HostRuntime) -> Result<(), Fail> {
-    let name = Text::from_slice(rt.alloc(), b"c")?;
+fn each_status_has_its_code(rt: HostRuntime) {
+    let name = Text::from_slice(rt.alloc(), b"c").expect(&rt, "a name");
     let kind = Kind::BadValue;
     for (status, code) in [
         (Status::Ok, 0),
@@ -240,5 +236,4 @@ fn each_status_has_its_code(rt: HostRuntime) -> Result<(), Fail> {
     ] {
         assert!(rt; status.code() == code);
     }
-    Ok(())
 }

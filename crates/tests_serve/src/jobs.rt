@@ -1,9 +1,10 @@
 //! Jobs of commands over files and a sink in memory.
 
-use sq_base::{Text, WantOfMemory};
+use sq_base::Text;
 use sq_outside_mem::{MemFile, MemFiles, MemSink};
 use sq_proxy::{Status, run_command};
 use std::alloc::Global;
+use std::process::Abort;
 
 /// The bytes that a source gives and a sink takes in a call.
 pub const STEP: usize = 7;
@@ -33,36 +34,46 @@ pub struct Ran {
 }
 
 // The texts of these words.
-fn texts(alloc: Global, words: &[&str]) -> Result<Vec<Text>, WantOfMemory> {
+fn texts(rt: &impl Abort, alloc: Global, words: &[&str]) -> Vec<Text> {
     let mut texts = Vec::new(alloc);
     for word in words {
-        texts.push(Text::from_slice(alloc, word.as_bytes())?)?;
+        let text = Text::from_slice(alloc, word.as_bytes()).expect(rt, "a word");
+        texts.push(text).expect(rt, "a word");
     }
-    Ok(texts)
+    texts
 }
 
 // A file of this name and text, of which the listed reads fail.
-fn file(alloc: Global, name: &str, text: &str, fails: &[u64]) -> Result<MemFile, WantOfMemory> {
-    let name = Text::from_slice(alloc, name.as_bytes())?;
-    let text = Text::from_slice(alloc, text.as_bytes())?;
-    let fails = Vec::from_slice(alloc, fails)?;
-    Ok(MemFile { name, text, fails })
+fn file(rt: &impl Abort, alloc: Global, name: &str, text: &str, fails: &[u64]) -> MemFile {
+    MemFile {
+        name: Text::from_slice(alloc, name.as_bytes()).expect(rt, "a name"),
+        text: Text::from_slice(alloc, text.as_bytes()).expect(rt, "a text"),
+        fails: calls(rt, alloc, fails),
+    }
+}
+
+// The calls that fail.
+fn calls(rt: &impl Abort, alloc: Global, fails: &[u64]) -> Vec<u64> {
+    Vec::from_slice(alloc, fails).expect(rt, "the calls that fail")
 }
 
 // The files of a job.
-fn files(alloc: Global, job: &Job<'_>) -> Result<MemFiles, WantOfMemory> {
+fn files(rt: &impl Abort, alloc: Global, job: &Job<'_>) -> MemFiles {
     let mut files = Vec::new(alloc);
-    files.push(file(alloc, "c", job.conf, job.conf_reads)?)?;
-    files.push(file(alloc, "s", job.script, job.script_reads)?)?;
-    let openings = Vec::from_slice(alloc, job.openings)?;
-    MemFiles::new(alloc, files, STEP, OPENINGS, openings)
+    let conf = file(rt, alloc, "c", job.conf, job.conf_reads);
+    files.push(conf).expect(rt, "a file");
+    let script = file(rt, alloc, "s", job.script, job.script_reads);
+    files.push(script).expect(rt, "a file");
+    let openings = calls(rt, alloc, job.openings);
+    MemFiles::new(alloc, files, STEP, OPENINGS, openings).expect(rt, "the files")
 }
 
-/// Runs a job.
-pub fn run(alloc: Global, job: &Job<'_>) -> Result<Ran, WantOfMemory> {
-    let words = texts(alloc, job.words)?;
-    let mut files = files(alloc, job)?;
-    let mut out = MemSink::new(alloc, job.room, STEP, Vec::from_slice(alloc, job.writes)?)?;
+/// Runs a job. What fails beside it ends the process.
+pub fn run(rt: &impl Abort, alloc: Global, job: &Job<'_>) -> Ran {
+    let words = texts(rt, alloc, job.words);
+    let mut files = files(rt, alloc, job);
+    let writes = calls(rt, alloc, job.writes);
+    let mut out = MemSink::new(alloc, job.room, STEP, writes).expect(rt, "an output");
     let status = run_command(alloc, words.as_slice(), &mut files, &mut out);
-    Ok(Ran { status, out })
+    Ran { status, out }
 }

@@ -1,12 +1,13 @@
 //! Nets in memory with clients that send their bytes at once, one origin, one helper, one program that rewrites, and
-//! names.
+//! names. What fails ends the process.
 use crate::spawners::PairedNet;
-use sq_base::{Addr, Addrs, Moment, Text, WantOfMemory};
+use sq_base::{Addr, Addrs, Moment, Text};
 use sq_outside_mem::{
     MemChild, MemClock, MemDialer, MemLink, MemName, MemNet, MemOrigin, MemPair, MemParts,
     MemResolver, MemShape, MemSpawner, MemWait, Wire,
 };
 use std::alloc::Global;
+use std::process::Abort;
 use std::sync::atomic::AtomicBool;
 
 /// A client: its IPv4 address as a number, and what it sends. It comes from port 4000.
@@ -19,18 +20,15 @@ pub type Origin<'a> = (&'a [u8], u16, &'a [u8]);
 pub type Named<'a> = (&'a [u8], u32);
 
 // A link of these bytes that no call fails.
-fn pair<'a>(
-    alloc: Global,
-    bytes: &[u8],
-    wire: Option<&'a Wire>,
-) -> Result<MemPair<'a>, WantOfMemory> {
+fn pair<'a>(rt: &impl Abort, alloc: Global, bytes: &[u8], wire: Option<&'a Wire>) -> MemPair<'a> {
     let shape = MemShape {
         step: 4096,
         room: 4096,
         reads: Vec::new(alloc),
         writes: Vec::new(alloc),
     };
-    MemPair::new(alloc, Text::from_slice(alloc, bytes)?, shape, wire)
+    let text = Text::from_slice(alloc, bytes).expect(rt, "a text");
+    MemPair::new(alloc, text, shape, wire).expect(rt, "a link")
 }
 
 // The IPv4 address of this number.
@@ -42,83 +40,94 @@ fn address(number: u32) -> Addr {
 }
 
 /// These names, each with its address.
-pub fn names(alloc: Global, named: &[Named<'_>]) -> Result<Vec<MemName>, WantOfMemory> {
+pub fn names(rt: &impl Abort, alloc: Global, named: &[Named<'_>]) -> Vec<MemName> {
     let mut names = Vec::new(alloc);
     for &(host, number) in named {
-        let host = Text::from_slice(alloc, host)?;
+        let host = Text::from_slice(alloc, host).expect(rt, "a name");
         let mut addrs = Addrs::new(alloc);
-        addrs.push(address(number))?;
-        names.push(MemName { host, addrs })?;
+        addrs.push(address(number)).expect(rt, "an address");
+        names.push(MemName { host, addrs }).expect(rt, "a name");
     }
-    Ok(names)
+    names
 }
 
 /// The links of these clients, each with its wire.
 pub fn links<'a>(
+    rt: &impl Abort,
     alloc: Global,
     clients: &[Client<'_>],
     wires: &'a [Wire],
-) -> Result<Vec<MemLink<'a>>, WantOfMemory> {
+) -> Vec<MemLink<'a>> {
     let mut links = Vec::new(alloc);
     for (&(number, bytes), wire) in clients.iter().zip(wires.iter()) {
-        links.push(MemLink {
+        let link = MemLink {
             addr: address(number),
             port: 4000,
-            pair: pair(alloc, bytes, Some(wire))?,
-        })?;
+            pair: pair(rt, alloc, bytes, Some(wire)),
+        };
+        links.push(link).expect(rt, "a link");
     }
-    Ok(links)
+    links
 }
 
 /// The origin, with its wire.
 pub fn origins<'a>(
+    rt: &impl Abort,
     alloc: Global,
     origin: Origin<'_>,
     wire: &'a Wire,
-) -> Result<Vec<MemOrigin<'a>>, WantOfMemory> {
+) -> Vec<MemOrigin<'a>> {
     let (host, port, reply) = origin;
-    let host = Text::from_slice(alloc, host)?;
-    let pair = pair(alloc, reply, Some(wire))?;
+    let host = Text::from_slice(alloc, host).expect(rt, "a name");
+    let pair = pair(rt, alloc, reply, Some(wire));
     let mut origins = Vec::new(alloc);
-    origins.push(MemOrigin { host, port, pair })?;
-    Ok(origins)
+    origins
+        .push(MemOrigin { host, port, pair })
+        .expect(rt, "an origin");
+    origins
 }
 
 /// A helper `/bin/h` that answers `OK` once a line was written to the last of the wires, or ends after 20,000,000 turns of
 /// waiting.
-pub fn helpers<'a>(alloc: Global, wires: &'a [Wire]) -> Result<Vec<MemChild<'a>>, WantOfMemory> {
+pub fn helpers<'a>(rt: &impl Abort, alloc: Global, wires: &'a [Wire]) -> Vec<MemChild<'a>> {
     let mut words = Vec::new(alloc);
-    words.push(Text::from_slice(alloc, b"/bin/h")?)?;
-    let pair = pair(alloc, b"OK\n", None)?;
+    let program = Text::from_slice(alloc, b"/bin/h").expect(rt, "a program");
+    words.push(program).expect(rt, "a program");
+    let pair = pair(rt, alloc, b"OK\n", None);
     let waits = wires.last().map(|wire| MemWait {
         wire,
         turns: 20_000_000,
     });
     let mut children = Vec::new(alloc);
-    children.push(MemChild { words, pair, waits })?;
-    Ok(children)
+    let child = MemChild { words, pair, waits };
+    children.push(child).expect(rt, "a program");
+    children
 }
 
 /// A program `/bin/r` that says these lines, each once it was asked once more. Its questions go over the wire.
 pub fn rewriters<'a>(
+    rt: &impl Abort,
     alloc: Global,
     lines: &[u8],
     wire: &'a Wire,
-) -> Result<Vec<MemChild<'a>>, WantOfMemory> {
+) -> Vec<MemChild<'a>> {
     let mut words = Vec::new(alloc);
-    words.push(Text::from_slice(alloc, b"/bin/r")?)?;
-    let pair = pair(alloc, lines, Some(wire))?;
+    let program = Text::from_slice(alloc, b"/bin/r").expect(rt, "a program");
+    words.push(program).expect(rt, "a program");
+    let pair = pair(rt, alloc, lines, Some(wire));
     let waits = Some(MemWait {
         wire,
         turns: 20_000_000,
     });
     let mut children = Vec::new(alloc);
-    children.push(MemChild { words, pair, waits })?;
-    Ok(children)
+    let child = MemChild { words, pair, waits };
+    children.push(child).expect(rt, "a program");
+    children
 }
 
 /// A net with these links, origins, helpers and programs that rewrite, and a clock that stands at 7.
 pub fn net<'a>(
+    rt: &impl Abort,
     alloc: Global,
     links: Vec<MemLink<'a>>,
     origins: Vec<MemOrigin<'a>>,
@@ -126,10 +135,10 @@ pub fn net<'a>(
     rewriters: Vec<MemChild<'a>>,
     names: &'a [MemName],
     word: &'a AtomicBool,
-) -> Result<PairedNet<'a>, WantOfMemory> {
-    let dialer = MemDialer::new(alloc, origins, Vec::new(alloc))?;
-    let spawner = MemSpawner::new(alloc, children, Vec::new(alloc))?;
-    let copy = MemSpawner::new(alloc, rewriters, Vec::new(alloc))?;
+) -> PairedNet<'a> {
+    let dialer = MemDialer::new(alloc, origins, Vec::new(alloc)).expect(rt, "a dialer");
+    let spawner = MemSpawner::new(alloc, children, Vec::new(alloc)).expect(rt, "a spawner");
+    let copy = MemSpawner::new(alloc, rewriters, Vec::new(alloc)).expect(rt, "a spawner");
     let clock = MemClock::new(alloc, Moment(7), Vec::new(alloc));
     let resolver = MemResolver::new(alloc, names, Vec::new(alloc));
     let parts = MemParts::new(
@@ -141,5 +150,5 @@ pub fn net<'a>(
         clock,
         resolver,
     );
-    Ok(PairedNet::new(MemNet::new(parts, Vec::new(alloc)), copy))
+    PairedNet::new(MemNet::new(parts, Vec::new(alloc)), copy)
 }

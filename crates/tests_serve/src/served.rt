@@ -1,8 +1,8 @@
-//! A server over a net in memory, from its words to what came of it.
+//! A server over a net in memory, from its words to what came of it. What fails ends the process.
 use crate::devices::{Orders, Versions};
 use crate::nets::{Client, Named, Origin, helpers, links, names, net, origins, rewriters};
 use crate::spawners::PairedNet;
-use sq_base::{Text, WantOfMemory};
+use sq_base::Text;
 use sq_cache::HashSeed;
 use sq_journal::print_entry;
 use sq_journal_writers::MemJournal;
@@ -12,7 +12,6 @@ use std::alloc::Global;
 use std::process::Abort;
 use std::sync::Wait;
 use std::sync::atomic::AtomicBool;
-use std::test::Fail;
 use std::thread::Threads;
 
 /// A server: how many workers it has, the text of its configuration at each opening, its orders, which come once all clients
@@ -42,56 +41,64 @@ pub struct Came {
 }
 
 // A wire for each client.
-fn wires(alloc: Global, clients: &[Client<'_>]) -> Result<Vec<Wire>, WantOfMemory> {
+fn wires(rt: &impl Abort, alloc: Global, clients: &[Client<'_>]) -> Vec<Wire> {
     let mut wires = Vec::new(alloc);
     for _ in clients {
-        wires.push(Wire::new(alloc, 4096)?)?;
+        let wire = Wire::new(alloc, 4096).expect(rt, "a wire");
+        wires.push(wire).expect(rt, "a wire");
     }
-    Ok(wires)
+    wires
 }
 
 // The words of a server.
-fn words(alloc: Global, workers: &[u8]) -> Result<Vec<Text>, WantOfMemory> {
+fn words(rt: &impl Abort, alloc: Global, workers: &[u8]) -> Vec<Text> {
     let mut words = Vec::new(alloc);
-    words.push(Text::from_slice(alloc, b"serve")?)?;
-    words.push(Text::from_slice(alloc, b"c")?)?;
-    words.push(Text::from_slice(alloc, b"--workers")?)?;
-    words.push(Text::from_slice(alloc, workers)?)?;
-    Ok(words)
+    for word in [b"serve".as_slice(), b"c", b"--workers", workers] {
+        let word = Text::from_slice(alloc, word).expect(rt, "a word");
+        words.push(word).expect(rt, "a word");
+    }
+    words
 }
 
 // The lines of a journal.
-fn lines(alloc: Global, journal: &MemJournal) -> Result<String, Fail> {
+fn lines(rt: &impl Abort, alloc: Global, journal: &MemJournal) -> String {
     let mut text = String::new(alloc);
     for entry in journal.entries() {
-        let line = print_entry(alloc, entry)?;
-        text.push_str(str::from_utf8(line.as_bytes())?)?;
-        text.push('\n')?;
+        let line = print_entry(alloc, entry).expect(rt, "a line");
+        put(rt, &mut text, line.as_bytes());
+        text.push('\n').expect(rt, "an end of line");
     }
-    Ok(text)
+    text
+}
+
+// Puts these bytes behind a text.
+fn put(rt: &impl Abort, text: &mut String, bytes: &[u8]) {
+    let more = str::from_utf8(bytes).expect(rt, "UTF-8");
+    text.push_str(more).expect(rt, "a text");
 }
 
 // The text of these bytes.
-fn string(alloc: Global, bytes: &[u8]) -> Result<String, Fail> {
+fn string(rt: &impl Abort, alloc: Global, bytes: &[u8]) -> String {
     let mut text = String::new(alloc);
-    text.push_str(str::from_utf8(bytes)?)?;
-    Ok(text)
+    put(rt, &mut text, bytes);
+    text
 }
 
 // What went over these wires and then this one.
-fn texts(alloc: Global, wires: &[Wire], last: &Wire) -> Result<String, Fail> {
+fn texts(rt: &impl Abort, alloc: Global, wires: &[Wire], last: &Wire) -> String {
     let mut all = String::new(alloc);
     for wire in wires {
-        let text = wire.text(alloc)?;
-        all.push_str(str::from_utf8(text.as_bytes())?)?;
+        let text = wire.text(alloc).expect(rt, "what went over a wire");
+        put(rt, &mut all, text.as_bytes());
     }
-    let text = last.text(alloc)?;
-    all.push_str(str::from_utf8(text.as_bytes())?)?;
-    Ok(all)
+    let text = last.text(alloc).expect(rt, "what went over a wire");
+    put(rt, &mut all, text.as_bytes());
+    all
 }
 
 // What a server comes to that ended with this code, this output and this journal.
 fn sum_up(
+    rt: &impl Abort,
     alloc: Global,
     code: u8,
     out: &MemSink,
@@ -99,22 +106,22 @@ fn sum_up(
     wires: &[Wire],
     origin: &Wire,
     rewriter: &Wire,
-) -> Result<Came, Fail> {
-    let out = string(alloc, out.bytes())?;
-    let journal = lines(alloc, journal)?;
-    let got = texts(alloc, wires, origin)?;
-    let asked = texts(alloc, &[], rewriter)?;
-    Ok(Came {
+) -> Came {
+    let out = string(rt, alloc, out.bytes());
+    let journal = lines(rt, alloc, journal);
+    let got = texts(rt, alloc, wires, origin);
+    let asked = texts(rt, alloc, &[], rewriter);
+    Came {
         code,
         out,
         journal,
         got,
         asked,
-    })
+    }
 }
 
 // Runs a server over a net.
-fn run_over<R: Threads + Wait + Sync>(
+fn run_over<R: Threads + Wait + Sync + Abort>(
     rt: &R,
     alloc: Global,
     job: &Job<'_>,
@@ -122,11 +129,11 @@ fn run_over<R: Threads + Wait + Sync>(
     wires: &[Wire],
     origin: &Wire,
     rewriter: &Wire,
-) -> Result<Came, Fail> {
-    let words = words(alloc, job.workers)?;
-    let fails = Vec::from_slice(alloc, job.fails)?;
-    let mut out = MemSink::new(alloc, 4096, 4096, Vec::new(alloc))?;
-    let journal = MemJournal::new(alloc, 100, fails, Vec::new(alloc))?;
+) -> Came {
+    let words = words(rt, alloc, job.workers);
+    let fails = Vec::from_slice(alloc, job.fails).expect(rt, "the notes that fail");
+    let mut out = MemSink::new(alloc, 4096, 4096, Vec::new(alloc)).expect(rt, "an output");
+    let journal = MemJournal::new(alloc, 100, fails, Vec::new(alloc)).expect(rt, "a journal");
     let mut files = Versions::new(job.conf);
     let mut control = Orders::new(wires, job.orders);
     let platform = Platform {
@@ -143,22 +150,21 @@ fn run_over<R: Threads + Wait + Sync>(
         net,
         journal,
     );
-    match journal {
-        Some(journal) => sum_up(
-            alloc,
-            status.code(),
-            &out,
-            &journal,
-            wires,
-            origin,
-            rewriter,
-        ),
-        None => Err(Fail::new("no journal is handed back")),
-    }
+    let journal = journal.expect(rt, "the journal is handed back");
+    sum_up(
+        rt,
+        alloc,
+        status.code(),
+        &out,
+        &journal,
+        wires,
+        origin,
+        rewriter,
+    )
 }
 
 // Runs a server whose clients, whose origin and whose program that rewrites have these wires.
-fn run_with<'a, R: Threads + Wait + Sync>(
+fn run_with<'a, R: Threads + Wait + Sync + Abort>(
     rt: &R,
     alloc: Global,
     job: &Job<'_>,
@@ -167,21 +173,21 @@ fn run_with<'a, R: Threads + Wait + Sync>(
     rewriter: &'a Wire,
     names: &'a [MemName],
     word: &'a AtomicBool,
-) -> Result<Came, Fail> {
-    let links = links(alloc, job.clients, wires)?;
-    let children = helpers(alloc, wires)?;
-    let origins = origins(alloc, job.origin, origin)?;
-    let rewriters = rewriters(alloc, job.rewriter, rewriter)?;
-    let mut net = net(alloc, links, origins, children, rewriters, names, word)?;
+) -> Came {
+    let links = links(rt, alloc, job.clients, wires);
+    let children = helpers(rt, alloc, wires);
+    let origins = origins(rt, alloc, job.origin, origin);
+    let rewriters = rewriters(rt, alloc, job.rewriter, rewriter);
+    let mut net = net(rt, alloc, links, origins, children, rewriters, names, word);
     run_over(rt, alloc, job, &mut net, wires, origin, rewriter)
 }
 
 /// Runs a server.
-pub fn run<R: Threads + Wait + Sync>(rt: &R, alloc: Global, job: &Job<'_>) -> Result<Came, Fail> {
-    let wires = wires(alloc, job.clients)?;
-    let origin = Wire::new(alloc, 4096)?;
-    let rewriter = Wire::new(alloc, 4096)?;
-    let names = names(alloc, job.names)?;
+pub fn run<R: Threads + Wait + Sync + Abort>(rt: &R, alloc: Global, job: &Job<'_>) -> Came {
+    let wires = wires(rt, alloc, job.clients);
+    let origin = Wire::new(alloc, 4096).expect(rt, "a wire");
+    let rewriter = Wire::new(alloc, 4096).expect(rt, "a wire");
+    let names = names(rt, alloc, job.names);
     let word = AtomicBool::new(false);
     run_with(
         rt,
@@ -203,10 +209,9 @@ pub fn check<R: Threads + Wait + Sync + Abort>(
     code: u8,
     out: &str,
     journal: &str,
-) -> Result<(), Fail> {
-    let came = run(rt, alloc, job)?;
+) {
+    let came = run(rt, alloc, job);
     assert!(rt; came.code == code);
     assert!(rt; came.out.as_str() == out);
     assert!(rt; came.journal.as_str() == journal);
-    Ok(())
 }

@@ -1,7 +1,7 @@
 //! Servers over nets in memory.
 use crate::served::{Job, check, run};
 use std::alloc::Global;
-use std::test::Fail;
+use std::process::Abort;
 
 /// What a client asks who wants a page, and ends.
 const REQUEST: &[u8] = b"GET http://a.example/ HTTP/1.1\r\nHost: a.example\r\n\r\n";
@@ -24,7 +24,7 @@ fn job<'a>() -> Job<'a> {
 }
 
 #[test]
-fn a_server_is_ordered_to_end(rt: HostRuntime) -> Result<(), Fail> {
+fn a_server_is_ordered_to_end(rt: HostRuntime) {
     let alloc = rt.alloc();
     let small = Job {
         conf: &[b"acl a src 10.0.0.0/8\nhttp_access allow a\n"],
@@ -38,17 +38,17 @@ fn a_server_is_ordered_to_end(rt: HostRuntime) -> Result<(), Fail> {
         0,
         "listening 3128\nstopped\n",
         "7 begin 0 => epoch 1\n",
-    )?;
+    );
     // Its first note fails.
     let unnoted = Job {
         fails: &[1],
         ..small
     };
-    check(&rt, alloc, &unnoted, 6, "error journal\n", "")
+    check(&rt, alloc, &unnoted, 6, "error journal\n", "");
 }
 
 #[test]
-fn a_server_reads_its_configuration_again(rt: HostRuntime) -> Result<(), Fail> {
+fn a_server_reads_its_configuration_again(rt: HostRuntime) {
     let alloc = rt.alloc();
     let same = Job {
         conf: &[b"http_access deny all\n", b"http_access deny all\n"],
@@ -62,7 +62,7 @@ fn a_server_reads_its_configuration_again(rt: HostRuntime) -> Result<(), Fail> {
         0,
         "listening 3128\nreconfigured 2\nstopped\n",
         "7 begin 0 => epoch 1\n7 reconfigure http_access%20deny%20all%0A => epoch 2\n",
-    )?;
+    );
     // The text is faulty by now.
     let faulty = Job {
         conf: &[b"http_access deny all\n", b"acl"],
@@ -75,7 +75,7 @@ fn a_server_reads_its_configuration_again(rt: HostRuntime) -> Result<(), Fail> {
         0,
         "listening 3128\nkept old 1 3\nstopped\n",
         "7 begin 0 => epoch 1\n",
-    )
+    );
 }
 
 /// Three replies of rule 1.
@@ -87,7 +87,7 @@ const JOURNAL: &str =
     "7 begin 0 => epoch 1\n7 open 1 10.0.0.1 4000 => ok\n7 ask 1 GET http://a.example/ Host:a.example => check 1\n7 step 1 => done\n7 take 1 => epoch 1 denied rule 1\n7 close 1 => ok\n7 open 1 10.0.0.2 4000 => ok\n7 ask 1 GET http://a.example/ Host:a.example => check 2\n7 step 2 => done\n7 take 2 => epoch 1 denied rule 1\n7 close 1 => ok\n7 open 1 10.0.0.3 4000 => ok\n7 ask 1 GET http://a.example/ Host:a.example => check 3\n7 step 3 => done\n7 take 3 => epoch 1 denied rule 1\n7 close 1 => ok\n";
 
 #[test]
-fn one_worker_serves_each_link(rt: HostRuntime) -> Result<(), Fail> {
+fn one_worker_serves_each_link(rt: HostRuntime) {
     let three = Job {
         clients: &[
             (0x0a00_0001, REQUEST),
@@ -96,12 +96,11 @@ fn one_worker_serves_each_link(rt: HostRuntime) -> Result<(), Fail> {
         ],
         ..job()
     };
-    let came = run(&rt, rt.alloc(), &three)?;
+    let came = run(&rt, rt.alloc(), &three);
     assert!(rt; came.code == 0);
     assert!(rt; came.out.as_str() == "listening 3128\nstopped\n");
     assert!(rt; came.journal.as_str() == JOURNAL);
     assert!(rt; came.got.as_str() == DENIED);
-    Ok(())
 }
 
 /// Connections from 10.0.0.1 wait for the helper, which answers once the second client has its reply.
@@ -113,17 +112,16 @@ const BOTH: &str =
     "HTTP/1.1 403 Forbidden\r\nContent-Type: text/plain\r\nContent-Length: 14\r\n\r\ndenied rule 1\nHTTP/1.1 403 Forbidden\r\nContent-Type: text/plain\r\nContent-Length: 14\r\n\r\ndenied rule 2\n";
 
 #[test]
-fn a_worker_serves_while_another_waits_for_a_helper(rt: HostRuntime) -> Result<(), Fail> {
+fn a_worker_serves_while_another_waits_for_a_helper(rt: HostRuntime) {
     let two = Job {
         workers: b"2",
         conf: &[GATE],
         clients: &[(0x0a00_0001, REQUEST), (0x0a00_0002, REQUEST)],
         ..job()
     };
-    let came = run(&rt, rt.alloc(), &two)?;
+    let came = run(&rt, rt.alloc(), &two);
     assert!(rt; came.out.as_str() == "listening 3128\nstopped\n");
     assert!(rt; came.got.as_str() == BOTH);
-    Ok(())
 }
 
 /// The reply where an entry could not be noted, and that of rule 2.
@@ -131,7 +129,7 @@ const UNNOTED: &str =
     "HTTP/1.1 500 Internal Server Error\r\nContent-Type: text/plain\r\nContent-Length: 16\r\nConnection: close\r\n\r\njournal stopped\nHTTP/1.1 403 Forbidden\r\nContent-Type: text/plain\r\nContent-Length: 14\r\n\r\ndenied rule 2\n";
 
 #[test]
-fn who_waits_for_a_helper_is_told_that_the_journal_failed(rt: HostRuntime) -> Result<(), Fail> {
+fn who_waits_for_a_helper_is_told_that_the_journal_failed(rt: HostRuntime) {
     // Eleven notes come before the helper's answer: the beginning, three until the one client waits, three of the pump, and
     // four until the other has its reply. The next one fails, whosever it is.
     let stopped = Job {
@@ -141,11 +139,10 @@ fn who_waits_for_a_helper_is_told_that_the_journal_failed(rt: HostRuntime) -> Re
         clients: &[(0x0a00_0001, REQUEST), (0x0a00_0002, REQUEST)],
         ..job()
     };
-    let came = run(&rt, rt.alloc(), &stopped)?;
+    let came = run(&rt, rt.alloc(), &stopped);
     assert!(rt; came.code == 6);
     assert!(rt; came.out.as_str() == "listening 3128\nerror journal\n");
     assert!(rt; came.got.as_str() == UNNOTED);
-    Ok(())
 }
 
 /// A request whose body's end is stated in two ways.
@@ -153,15 +150,15 @@ const TWICE: &[u8] =
     b"POST http://a.example/ HTTP/1.1\r\nHost: a.example\r\nTransfer-Encoding: chunked\r\nContent-Length: 3\r\n\r\n";
 
 // A request whose head has this many bytes.
-fn long_head(alloc: Global, bytes: usize) -> Result<Vec<u8>, Fail> {
+fn long_head(rt: &impl Abort, alloc: Global, bytes: usize) -> Vec<u8> {
     let front = b"GET http://a.example/ HTTP/1.1\r\nHost: a.example\r\nX: ";
     let end = b"\r\n\r\n";
-    let mut head = Vec::from_slice(alloc, front)?;
+    let mut head = Vec::from_slice(alloc, front).expect(rt, "a head");
     for _ in front.len().saturating_add(end.len())..bytes {
-        head.push(b'a')?;
+        head.push(b'a').expect(rt, "a head");
     }
-    head.extend_from_slice(end)?;
-    Ok(head)
+    head.extend_from_slice(end).expect(rt, "a head");
+    head
 }
 
 /// The replies to these two, and to a request behind them, which the origin gets. That answers one dial: none was made for the
@@ -174,8 +171,8 @@ const UNASKED: &str =
     "7 begin 0 => epoch 1\n7 open 1 10.0.0.1 4000 => ok\n7 close 1 => ok\n7 open 1 10.0.0.2 4000 => ok\n7 close 1 => ok\n7 open 1 10.0.0.3 4000 => ok\n7 ask 1 GET http://a.example/ Host:a.example => check 1\n7 step 1 => done\n7 take 1 => epoch 1 allowed rule 1\n7 close 1 => ok\n";
 
 #[test]
-fn heads_that_are_none_are_refused(rt: HostRuntime) -> Result<(), Fail> {
-    let long = long_head(rt.alloc(), 65_537)?;
+fn heads_that_are_none_are_refused(rt: HostRuntime) {
+    let long = long_head(&rt, rt.alloc(), 65_537);
     let three = Job {
         conf: &[b"http_access allow all\n"],
         clients: &[
@@ -185,10 +182,9 @@ fn heads_that_are_none_are_refused(rt: HostRuntime) -> Result<(), Fail> {
         ],
         ..job()
     };
-    let came = run(&rt, rt.alloc(), &three)?;
+    let came = run(&rt, rt.alloc(), &three);
     assert!(rt; came.got.as_str() == REFUSED);
     assert!(rt; came.journal.as_str() == UNASKED);
-    Ok(())
 }
 
 /// Who comes from the inside may ask for these ports.
@@ -204,17 +200,16 @@ const PASSED: &str =
     "HTTP/1.1 403 Forbidden\r\nContent-Type: text/plain\r\nContent-Length: 15\r\n\r\ndenied default\nHTTP/1.1 200 OK\r\nContent-Length: 2\r\nVia: 1.1 aclproxy\r\n\r\nhiGET /x?y HTTP/1.1\r\nHost: a.example:8080\r\nAccept: */*\r\nVia: 1.1 aclproxy\r\nX-Forwarded-For: 10.1.2.3\r\nConnection: close\r\n\r\n";
 
 #[test]
-fn an_origin_is_reached_by_whom_the_rules_allow(rt: HostRuntime) -> Result<(), Fail> {
+fn an_origin_is_reached_by_whom_the_rules_allow(rt: HostRuntime) {
     let two = Job {
         conf: &[PORTS],
         clients: &[(0xc000_0201, HOP), (0x0a01_0203, HOP)],
         origin: (b"a.example", 8080, REPLY),
         ..job()
     };
-    let came = run(&rt, rt.alloc(), &two)?;
+    let came = run(&rt, rt.alloc(), &two);
     assert!(rt; came.code == 0);
     assert!(rt; came.got.as_str() == PASSED);
-    Ok(())
 }
 
 /// A program is asked about each request that is allowed.
@@ -233,7 +228,7 @@ const REWRITTEN: &str =
     "HTTP/1.1 200 OK\r\nContent-Length: 2\r\nVia: 1.1 aclproxy\r\n\r\nhiHTTP/1.1 302 Found\r\nLocation: http://c.example/\r\nContent-Length: 0\r\nConnection: close\r\n\r\nHTTP/1.1 403 Forbidden\r\nContent-Type: text/plain\r\nContent-Length: 14\r\n\r\ndenied rule 1\nGET /y HTTP/1.1\r\nHost: b.example\r\nVia: 1.1 aclproxy\r\nX-Forwarded-For: 10.1.2.3\r\nConnection: close\r\n\r\n";
 
 #[test]
-fn a_program_that_rewrites_is_asked_about_what_is_allowed(rt: HostRuntime) -> Result<(), Fail> {
+fn a_program_that_rewrites_is_asked_about_what_is_allowed(rt: HostRuntime) {
     let three = Job {
         conf: &[REWRITES],
         clients: &[
@@ -245,14 +240,13 @@ fn a_program_that_rewrites_is_asked_about_what_is_allowed(rt: HostRuntime) -> Re
         rewriter: SAYS,
         ..job()
     };
-    let came = run(&rt, rt.alloc(), &three)?;
+    let came = run(&rt, rt.alloc(), &three);
     assert!(rt; came.out.as_str() == "listening 3128\nstopped\n");
     assert!(rt; came.got.as_str() == REWRITTEN);
     assert!(rt;
         came.asked.as_str()
             == "http://a.example/x 10.1.2.3/- - GET\nhttp://a.example/x 10.1.2.4/- - GET\n"
     );
-    Ok(())
 }
 
 /// Names are looked up, and none of this machine may be asked for.
@@ -273,7 +267,7 @@ const LOOKED_UP: &str =
     "7 begin 0 => epoch 1\n7 open 1 10.0.0.1 4000 => ok\n7 ask 1 GET http://localhost/ Host:localhost => check 1\n7 step 1 => waits 1\n7 act => start 1 dst%20lookup\n7 started 1 dst%20lookup => proc 1\n7 act => send 1 1 - localhost%20to_localhost%2520lookup%20-\n7 line 1 OK => reply 1 ok\n7 step 1 => done\n7 take 1 => epoch 1 denied rule 1\n7 close 1 => ok\n7 open 1 10.0.0.2 4000 => ok\n7 ask 1 GET http://a.example/ Host:a.example => check 2\n7 step 2 => waits 2\n7 act => send 1 2 - a.example%20to_localhost%2520lookup%20-\n7 line 1 ERR => reply 2 err\n7 step 2 => done\n7 take 2 => epoch 1 allowed rule 2\n7 close 1 => ok\n7 open 1 10.0.0.3 4000 => ok\n7 ask 1 GET http://no.example/ Host:no.example => check 3\n7 step 3 => waits 3\n7 act => send 1 3 - no.example%20to_localhost%2520lookup%20-\n7 line 1 BH => reply 3 bh\n7 step 3 => done\n7 take 3 => epoch 1 denied fault 1 to_localhost%20lookup Bh\n7 close 1 => ok\n7 died 1 => ok\n";
 
 #[test]
-fn a_name_of_this_machine_is_denied_by_its_address(rt: HostRuntime) -> Result<(), Fail> {
+fn a_name_of_this_machine_is_denied_by_its_address(rt: HostRuntime) {
     let three = Job {
         conf: &[LOOKUPS],
         clients: &[
@@ -284,9 +278,8 @@ fn a_name_of_this_machine_is_denied_by_its_address(rt: HostRuntime) -> Result<()
         names: &[(b"localhost", 0x7f00_0001), (b"a.example", 0xc000_0201)],
         ..job()
     };
-    let came = run(&rt, rt.alloc(), &three)?;
+    let came = run(&rt, rt.alloc(), &three);
     assert!(rt; came.code == 0);
     assert!(rt; came.got.as_str() == FOUND);
     assert!(rt; came.journal.as_str() == LOOKED_UP);
-    Ok(())
 }
