@@ -1,12 +1,12 @@
 //! What a keeper thread does.
 use crate::board::Task;
 use crate::halves::ProcOut;
-use crate::shelf::Shelf;
+use crate::site::Site;
 use sq_calls::DeskCalls;
 use sq_helper_pump::{AskerOut, Reader, ServeLines};
 use sq_keeper::{KeeperEnd, LineDesk};
-use sq_outside::{Resolver, Source, Spawner};
-use sq_shared::{Ledgers, LockDesk, NetTypes, Room, tell_end};
+use sq_outside::{Clock, Resolver, Source};
+use sq_shared::{Ledgers, LockDesk, tell_end};
 use std::alloc::Global;
 use std::sync::Wait;
 use std::thread;
@@ -42,26 +42,27 @@ fn answer_all<R: Wait + Sync, Q: Resolver, K: LineDesk>(
     }
 }
 
-/// Takes a half from the shelf, and hands its lines to the desk until the process ends or no more are wanted; of a process of
-/// the class by which names are looked up, the replies to its questions, over what the resolver finds. No lock is held while
-/// it looks. Whatever made it end, the pump learns by the shelf that this keeper has ended, and is woken for it.
-pub(crate) fn keep<'x, R: Wait + Sync, N: NetTypes, D: DeskCalls, B: Ledgers>(
-    rt: &'x R,
-    alloc: Global,
-    room: &'x Room<D, B>,
-    shelf: &Shelf<'_, <N::S as Spawner>::ChildOut, R, B>,
-    mut resolver: N::Q,
-    clock: N::C,
-) {
-    let Some(task) = shelf.board.take(rt) else {
-        return;
-    };
-    let Task { mut half, refused } = task;
-    let mut lines = ServeLines::new(alloc, LockDesk::new(rt, room, refused), clock);
-    match &mut half {
-        ProcOut::Child(half) => read_all(rt, alloc, half, &mut lines),
-        ProcOut::Asker(half) => answer_all(rt, alloc, half, &mut resolver, &mut lines),
+impl<'s, R: Wait + Sync, P: Source + Drop, D: DeskCalls, B: Ledgers> Site<'s, '_, R, P, D, B> {
+    /// Takes a half from the shelf, and hands its lines to the desk until the process ends or no more are wanted; of a process of
+    /// the class by which names are looked up, the replies to its questions, over what the resolver finds. No lock is held while
+    /// it looks. Whatever made it end, the pump learns by the shelf that this keeper has ended, and is woken for it.
+    pub(crate) fn keep<Q: Resolver + Drop, C: Clock + Drop>(self, mut resolver: Q, clock: C) {
+        let Site {
+            rt,
+            alloc,
+            room,
+            shelf,
+        } = self;
+        let Some(task) = shelf.board.take(rt) else {
+            return;
+        };
+        let Task { mut half, refused } = task;
+        let mut lines = ServeLines::new(alloc, LockDesk::new(rt, room, refused), clock);
+        match &mut half {
+            ProcOut::Child(half) => read_all(rt, alloc, half, &mut lines),
+            ProcOut::Asker(half) => answer_all(rt, alloc, half, &mut resolver, &mut lines),
+        }
+        shelf.board.end(rt, &half);
+        tell_end(rt, room);
     }
-    shelf.board.end(rt, &half);
-    tell_end(rt, room);
 }

@@ -13,6 +13,7 @@ mod halves;
 mod keeping;
 mod pumping;
 mod shelf;
+mod site;
 
 pub use pumping::{KeeperParts, PumpParts, PumpTools, pump_all};
 pub use shelf::Shelf;

@@ -4,12 +4,12 @@ ghost use Rattle.std.specs.Thread.{IsSend};
 
 use crate::board::Task;
 use crate::halves::ProcOut;
-use crate::keeping::keep;
 use crate::shelf::Shelf;
+use crate::site::Site;
 use sq_calls::{DeskCalls, HelperCalls};
 use sq_helper_pump::{ServePump, Turn};
-use sq_outside::{Another, Clock, Spawner};
-use sq_shared::{Ledgers, LockDesk, NetTypes, Refusals, Room, changes, wait_due};
+use sq_outside::{Another, Clock, Resolver, Source, Spawner};
+use sq_shared::{HelperTypes, Ledgers, LockDesk, Refusals, Room, changes, wait_due};
 use std::alloc::Global;
 use std::sync::Wait;
 use std::sync::ledger::Share;
@@ -18,10 +18,10 @@ use std::thread::{Scope, Threads};
 
 /// What the pump starts processes with, what its keepers look names up with, and its clock.
 #[derive(Drop)]
-pub struct PumpTools<N: NetTypes> {
-    pub spawner: N::S,
-    pub resolver: N::Q,
-    pub clock: N::C,
+pub struct PumpTools<H: HelperTypes> {
+    pub spawner: H::S,
+    pub resolver: H::Q,
+    pub clock: H::C,
 }
 
 /// The parts of the book of refusals that are for keepers, and how many they are.
@@ -40,53 +40,40 @@ pub struct PumpParts<B: Ledgers> {
     pub ghost own_some: { 0 < own.parts },
 }
 
-// What the pump and its keepers share: the runtime, the memory, the desk behind its lock, and the shelf.
-#[derive(Drop)]
-struct Site<'s, 'r, R: Wait, N: NetTypes, D: DeskCalls, B: Ledgers> {
-    rt: &'s R,
-    alloc: Global,
-    room: &'s Room<D, B>,
-    shelf: &'s Shelf<'r, <N::S as Spawner>::ChildOut, R, B>,
-}
-
-// Starts a keeper for a task. Where its thread could not be started, a task is handed back, unless a keeper took it up.
-fn begin<
+impl<
     's,
-    'e,
     'r: 's,
     R: Threads + Wait + Sync + 's + 'r,
-    N: NetTypes + Send + 's,
+    P: Source + Send + Drop + 's,
     D: DeskCalls + Send + 's,
     B: Ledgers + Send + Sync + 's,
->(
-    scope: &'s Scope<'s, &'e ()>,
-    site: &Site<'s, 'r, R, N, D, B>,
-    resolver: &N::Q,
-    clock: &N::C,
-    task: Task<ProcOut<'r, <N::S as Spawner>::ChildOut, R>, B>,
-) -> Result<(), Option<Task<ProcOut<'r, <N::S as Spawner>::ChildOut, R>, B>>> {
-    let rt = site.rt;
-    let alloc = site.alloc;
-    let room = site.room;
-    let shelf = site.shelf;
-    match shelf.board.put(rt, task) {
-        Ok(()) => {}
-        Err(task) => return Err(Some(task)),
+> Site<'s, 'r, R, P, D, B> {
+    // Starts a keeper for a task. Where its thread could not be started, a task is handed back, unless a keeper took it up.
+    fn begin<'e, Q: Resolver + Another + Send + Drop + 's, C: Clock + Another + Send + Drop + 's>(
+        &self,
+        scope: &'s Scope<'s, &'e ()>,
+        resolver: &Q,
+        clock: &C,
+        task: Task<ProcOut<'r, P, R>, B>,
+    ) -> Result<(), Option<Task<ProcOut<'r, P, R>, B>>> {
+        match self.shelf.board.put(self.rt, task) {
+            Ok(()) => {}
+            Err(task) => return Err(Some(task)),
+        }
+        let site = Site {
+            rt: self.rt,
+            alloc: self.alloc,
+            room: self.room,
+            shelf: self.shelf,
+        };
+        let looker = resolver.another();
+        let theirs = clock.another();
+        let started = scope.spawn(move || site.keep(looker, theirs));
+        if started.is_ok() {
+            return Ok(());
+        }
+        Err(self.shelf.board.take_back(self.rt))
     }
-    let looker = resolver.another();
-    let theirs = clock.another();
-    let started = scope.spawn(
-        move || -> ()
-            requires { IsSend N.L.row × IsSend N.L.In.row × IsSend N.L.Outgo.row × IsSend N.T.row
-                × IsSend N.D.row × IsSend N.D.In.row × IsSend N.D.Outgo.row
-                × IsSend N.S.row × IsSend N.S.ChildOut.row × IsSend N.S.ChildIn.row
-                × IsSend N.C.row × IsSend N.Q.row }
-        { keep::<R, N, D, B>(rt, alloc, room, shelf, looker, theirs) },
-    );
-    if started.is_ok() {
-        return Ok(());
-    }
-    Err(shelf.board.take_back(rt))
 }
 
 // A half that the pump holds, for a keeper.
@@ -125,15 +112,15 @@ fn hand_out<
     'e,
     'r: 's,
     R: Threads + Wait + Sync + 's + 'r,
-    N: NetTypes + Send + 's,
+    H: HelperTypes + Send + 's,
     D: DeskCalls + Send + 's,
     B: Ledgers + Send + Sync + 's,
 >(
     scope: &'s Scope<'s, &'e ()>,
-    site: &Site<'s, 'r, R, N, D, B>,
-    resolver: &N::Q,
-    clock: &N::C,
-    pump: &mut ServePump<'r, N::S, LockDesk<'s, R, D, B>, R>,
+    site: &Site<'s, 'r, R, <H::S as Spawner>::ChildOut, D, B>,
+    resolver: &H::Q,
+    clock: &H::C,
+    pump: &mut ServePump<'r, H::S, LockDesk<'s, R, D, B>, R>,
     parts: &mut KeeperParts<B>,
 ) {
     // A keeper that began before may have taken up this half, and then another one comes back.
@@ -150,7 +137,7 @@ fn hand_out<
         };
         let part = refused.split_off(1, 0);
         let task = Task::new(half, part);
-        match begin(scope, site, resolver, clock, task) {
+        match site.begin(scope, resolver, clock, task) {
             Ok(()) | Err(None) => *spare -= 1,
             Err(Some(back)) => {
                 let Task {
@@ -189,13 +176,13 @@ fn turns<
     'e,
     'r: 's,
     R: Threads + Wait + Sync + 's + 'r,
-    N: NetTypes + Send + 's,
+    H: HelperTypes + Send + 's,
     D: DeskCalls + Send + 's,
     B: Ledgers + Send + Sync + 's,
 >(
     scope: &'s Scope<'s, &'e ()>,
-    site: Site<'s, 'r, R, N, D, B>,
-    tools: PumpTools<N>,
+    site: Site<'s, 'r, R, <H::S as Spawner>::ChildOut, D, B>,
+    tools: PumpTools<H>,
     parts: PumpParts<B>,
 ) {
     let PumpTools {
@@ -212,7 +199,7 @@ fn turns<
             pump.ended(proc);
             continue;
         }
-        hand_out(scope, &site, &resolver, &clock, &mut pump, &mut keepers);
+        hand_out::<R, H, D, B>(scope, &site, &resolver, &clock, &mut pump, &mut keepers);
         match pump.turn(&mut clock) {
             Turn::Acted(_) => {}
             Turn::Idle => {
@@ -238,26 +225,24 @@ pub fn pump_all<
     'x,
     'r: 'x,
     R: Threads + Wait + Sync,
-    N: NetTypes + Send,
+    H: HelperTypes + Send,
     D: DeskCalls + Send,
     B: Ledgers + Send + Sync,
 >(
     rt: &'x R,
     alloc: Global,
     room: &'x Room<D, B>,
-    shelf: &'x Shelf<'r, <N::S as Spawner>::ChildOut, R, B>,
-    tools: PumpTools<N>,
+    shelf: &'x Shelf<'r, <H::S as Spawner>::ChildOut, R, B>,
+    tools: PumpTools<H>,
     parts: PumpParts<B>,
 ) {
     thread::scope(
         thread::scope_env(),
         rt,
         move |scope| -> ()
-            requires { IsSend N.row × IsSend D.row × IsSend B.row
-                × IsSend N.L.row × IsSend N.L.In.row × IsSend N.L.Outgo.row × IsSend N.T.row
-                × IsSend N.D.row × IsSend N.D.In.row × IsSend N.D.Outgo.row
-                × IsSend N.S.row × IsSend N.S.ChildOut.row × IsSend N.S.ChildIn.row
-                × IsSend N.C.row × IsSend N.Q.row }
+            requires { IsSend H.row × IsSend D.row × IsSend B.row
+                × IsSend H.S.row × IsSend H.S.ChildOut.row × IsSend H.S.ChildIn.row
+                × IsSend H.C.row × IsSend H.Q.row }
         {
             let site = Site {
                 rt,
@@ -265,7 +250,7 @@ pub fn pump_all<
                 room,
                 shelf,
             };
-            turns(scope, site, tools, parts)
+            turns::<R, H, D, B>(scope, site, tools, parts)
         },
     );
 }

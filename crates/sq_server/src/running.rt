@@ -16,8 +16,8 @@ use sq_outside::{Another, Clock, Spawner, Stopper};
 use sq_pools::{Pools, TagPools};
 use sq_rewrite_pump::{RewriterShelf, rewrite_all};
 use sq_shared::{
-    Asks, Bank, Door, Grants, Hall, Ledgers, Makes, NetTypes, Refusals, RewriterRoom, Room,
-    has_failed, set_done,
+    Asks, Bank, Door, Grants, Hall, HelperTypes, Ledgers, Makes, NetTypes, Refusals, RewriterRoom,
+    Room, WorkerTypes, has_failed, set_done,
 };
 use sq_workers::{SessionRooms, Shares, Sums, WorkerTools, work_all};
 use std::alloc::Global;
@@ -95,30 +95,61 @@ struct Steering<K, T> {
     stopper: T,
 }
 
-// What the rewriter's pump works with: where its keepers take up halves, the words of its program, and what starts it.
+// What the threads of helper processes share: the desk, the rewriter, if there is one, and where keepers take up halves.
 #[derive(Drop)]
-struct RewriterTools<'a, S: Spawner> {
-    shelf: &'a RewriterShelf<S::ChildOut>,
-    words: Option<Texts>,
-    spawner: S,
+struct HelperLocks<'a, 'r, R: Wait, P, D: DeskCalls, B: Ledgers> {
+    room: &'a Room<D, B>,
+    rewriter: Option<&'a RewriterRoom>,
+    shelf: &'a Shelf<'r, P, R, B>,
+    rewriter_shelf: &'a RewriterShelf<P>,
 }
 
-// The pump of the rewriter, if there is one.
-fn rewrite<R: Threads + Wait + Sync, N: NetTypes>(
+// The pump of the rewriter, if there is one, whose program has these words.
+fn rewrite<R: Threads + Wait + Sync, H: HelperTypes>(
     rt: &R,
     alloc: Global,
     rewriter: Option<&RewriterRoom>,
-    rewriting: RewriterTools<'_, N::S>,
-    clock: N::C,
+    shelf: &RewriterShelf<<H::S as Spawner>::ChildOut>,
+    words: Option<Texts>,
+    spawner: H::S,
+    clock: H::C,
 ) {
-    let RewriterTools {
-        shelf,
-        words,
-        spawner,
-    } = rewriting;
     if let (Some(room), Some(words)) = (rewriter, words) {
         rewrite_all(rt, alloc, room, shelf, spawner, clock, words);
     }
+}
+
+// The pump of helper processes beside that of the rewriter.
+fn pump_both<
+    R: Threads + Wait + Sync,
+    H: HelperTypes + Send,
+    D: DeskCalls + Send,
+    B: Ledgers + Send + Sync,
+>(
+    rt: &R,
+    alloc: Global,
+    locks: &HelperLocks<'_, '_, R, <H::S as Spawner>::ChildOut, D, B>,
+    words: Option<Texts>,
+    tools: PumpTools<H>,
+    parts: PumpParts<B>,
+) {
+    let spawner = tools.spawner.another();
+    let clock = tools.clock.another();
+    let room = locks.room;
+    let shelf = locks.shelf;
+    let rewriter = locks.rewriter;
+    let rewriter_shelf = locks.rewriter_shelf;
+    join(
+        rt,
+        move || -> ()
+            requires { IsSend H.S.row × IsSend H.S.ChildOut.row × IsSend H.S.ChildIn.row
+                × IsSend H.C.row × IsSend H.Q.row }
+        { rewrite::<R, H>(rt, alloc, rewriter, rewriter_shelf, words, spawner, clock) },
+        move || -> ()
+            requires { IsSend H.S.row × IsSend H.S.ChildOut.row × IsSend H.S.ChildIn.row
+                × IsSend H.C.row × IsSend H.Q.row }
+        { pump_all::<R, H, D, B>(rt, alloc, room, shelf, tools, parts) },
+    );
 }
 
 // No more is to be done.
@@ -133,19 +164,18 @@ fn end_all<R: Wait, D: DeskCalls, B: Ledgers>(
     }
 }
 
-// The pump of the rewriter beside the workers. Once these have returned, no more is to be done.
-fn rewriter_beside<
+// The workers. Once these have returned, no more is to be done.
+fn work_to_end<
     R: Threads + Wait + Sync,
-    N: NetTypes + Send,
+    W: WorkerTypes + Send,
     D: DeskCalls + Send,
     B: Ledgers + Send + Sync,
 >(
     rt: &R,
     alloc: Global,
-    door: &Mutex<Door<N::L>>,
+    door: &Mutex<Door<W::L>>,
     rooms: &SessionRooms<'_, D, B>,
-    rewriting: RewriterTools<'_, N::S>,
-    tools: WorkerTools<N>,
+    tools: WorkerTools<W>,
     workers: u32,
     shares: Shares<B>,
 ) -> Sums<B>
@@ -156,36 +186,12 @@ fn rewriter_beside<
     ensures asked { result.asked.parts ≡ workers + workers }
     ensures grants { result.grants.parts ≡ workers + workers }
 {
-    let clock = tools.clock.another();
-    let (_, sums) = join(
-        rt,
-        move || -> ()
-            requires { IsSend N.L.row × IsSend N.L.In.row × IsSend N.L.Outgo.row × IsSend N.T.row
-                × IsSend N.D.row × IsSend N.D.In.row × IsSend N.D.Outgo.row
-                × IsSend N.S.row × IsSend N.S.ChildOut.row × IsSend N.S.ChildIn.row
-                × IsSend N.C.row × IsSend N.Q.row }
-        { rewrite::<R, N>(rt, alloc, rooms.rewriter, rewriting, clock) },
-        move || -> Sums<B>
-            requires { IsSend N.L.row × IsSend N.L.In.row × IsSend N.L.Outgo.row × IsSend N.T.row
-                × IsSend N.D.row × IsSend N.D.In.row × IsSend N.D.Outgo.row
-                × IsSend N.S.row × IsSend N.S.ChildOut.row × IsSend N.S.ChildIn.row
-                × IsSend N.C.row × IsSend N.Q.row
-                × (0 < workers) × (workers ≤ 2 ^ 31)
-                × (shares.asked.parts ≡ workers + workers) × (shares.asked.amount ≡ 0)
-                × (shares.refused.parts ≡ workers + workers)
-                × (shares.granted.parts ≡ workers + workers) × (shares.granted.amount ≡ 0) }
-            ensures { (result.asked.parts ≡ workers + workers)
-                × (result.grants.parts ≡ workers + workers) }
-        {
-            let sums = work_all::<R, N, D, B>(rt, alloc, door, rooms, tools, 1, workers, shares);
-            end_all(rt, rooms.room, rooms.rewriter);
-            sums
-        },
-    );
+    let sums = work_all::<R, W, D, B>(rt, alloc, door, rooms, tools, 1, workers, shares);
+    end_all(rt, rooms.room, rooms.rewriter);
     sums
 }
 
-// The pump beside the rewriter's pump and the workers.
+// The pumps beside the workers.
 fn pump_beside<
     R: Threads + Wait + Sync,
     N: NetTypes + Send,
@@ -214,50 +220,41 @@ fn pump_beside<
         resolver,
         clock,
     } = tools;
-    let rewriting = RewriterTools {
-        shelf: locks.rewriter_shelf,
-        words,
-        spawner: spawner.another(),
-    };
-    let pumping = PumpTools {
+    let pumping: PumpTools<(N::S, N::Q, N::C)> = PumpTools {
         spawner,
         resolver,
         clock: clock.another(),
     };
-    let working = WorkerTools { dialer, clock };
+    let working: WorkerTools<(N::L, N::D, N::C)> = WorkerTools { dialer, clock };
     let rooms = SessionRooms {
         room: locks.room,
         bank: locks.bank,
         rewriter: locks.rewriter,
     };
+    let helpers = &HelperLocks {
+        room: locks.room,
+        rewriter: locks.rewriter,
+        shelf: locks.shelf,
+        rewriter_shelf: locks.rewriter_shelf,
+    };
     let door = locks.door;
-    let room = locks.room;
-    let shelf = locks.shelf;
     let rooms = &rooms;
     let (_, sums) = join(
         rt,
         move || -> ()
-            requires { IsSend N.L.row × IsSend N.L.In.row × IsSend N.L.Outgo.row × IsSend N.T.row
-                × IsSend N.D.row × IsSend N.D.In.row × IsSend N.D.Outgo.row
-                × IsSend N.S.row × IsSend N.S.ChildOut.row × IsSend N.S.ChildIn.row
+            requires { IsSend N.S.row × IsSend N.S.ChildOut.row × IsSend N.S.ChildIn.row
                 × IsSend N.C.row × IsSend N.Q.row }
-        { pump_all::<R, N, D, B>(rt, alloc, room, shelf, pumping, parts) },
+        { pump_both(rt, alloc, helpers, words, pumping, parts) },
         move || -> Sums<B>
-            requires { IsSend N.L.row × IsSend N.L.In.row × IsSend N.L.Outgo.row × IsSend N.T.row
-                × IsSend N.D.row × IsSend N.D.In.row × IsSend N.D.Outgo.row
-                × IsSend N.S.row × IsSend N.S.ChildOut.row × IsSend N.S.ChildIn.row
-                × IsSend N.C.row × IsSend N.Q.row
+            requires { IsSend N.L.row × IsSend N.L.In.row × IsSend N.L.Outgo.row
+                × IsSend N.D.row × IsSend N.D.In.row × IsSend N.D.Outgo.row × IsSend N.C.row
                 × (0 < workers) × (workers ≤ 2 ^ 31)
                 × (shares.asked.parts ≡ workers + workers) × (shares.asked.amount ≡ 0)
                 × (shares.refused.parts ≡ workers + workers)
                 × (shares.granted.parts ≡ workers + workers) × (shares.granted.amount ≡ 0) }
             ensures { (result.asked.parts ≡ workers + workers)
                 × (result.grants.parts ≡ workers + workers) }
-        {
-            rewriter_beside::<R, N, D, B>(
-                rt, alloc, door, rooms, rewriting, working, workers, shares,
-            )
-        },
+        { work_to_end(rt, alloc, door, rooms, working, workers, shares) },
     );
     sums
 }

@@ -41,7 +41,7 @@ pub use door_holds::{accept, has_failed};
 pub use hall::Hall;
 pub use ledgers::{Asks, Grants, Ledgers, Makes, Refusals};
 pub use lock_desk::LockDesk;
-pub use net_types::NetTypes;
+pub use net_types::{HelperTypes, NetTypes, WorkerTypes};
 pub use rewriter_hall::RewriterHall;
 pub use rewriter_room::RewriterRoom;
 pub use room::Room;

@@ -37,3 +37,48 @@ impl<
 
     type Q = Q;
 }
+
+/// Of which types is what the threads of helper processes work with: what starts them, what their keepers look names up with, and
+/// the clock. What is proved of a thread grows with each type that its function may name, so these are apart.
+pub trait HelperTypes {
+    type S: Spawner + Another + Send + Drop;
+
+    type Q: Resolver + Another + Send + Drop;
+
+    type C: Clock + Another + Send + Drop;
+}
+
+// Three types, in the order of the trait.
+impl<
+    S: Spawner + Another + Send + Drop,
+    Q: Resolver + Another + Send + Drop,
+    C: Clock + Another + Send + Drop,
+> HelperTypes for (S, Q, C) {
+    type S = S;
+
+    type Q = Q;
+
+    type C = C;
+}
+
+/// Of which types is what workers work with: whence they take links, what they dial with, and the clock.
+pub trait WorkerTypes {
+    type L: Listener + Send + Drop;
+
+    type D: Dialer + Another + Send + Drop;
+
+    type C: Clock + Another + Send + Drop;
+}
+
+// Three types, in the order of the trait.
+impl<
+    L: Listener + Send + Drop,
+    D: Dialer + Another + Send + Drop,
+    C: Clock + Another + Send + Drop,
+> WorkerTypes for (L, D, C) {
+    type L = L;
+
+    type D = D;
+
+    type C = C;
+}

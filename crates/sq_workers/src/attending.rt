@@ -11,7 +11,7 @@ use sq_conn_policy::HubFront;
 use sq_forward::{Ahead, Duplex, Half};
 use sq_outside::{Listener, raised_by};
 use sq_session::{SessionEnd, session};
-use sq_shared::{Ledgers, NetTypes, Refusals};
+use sq_shared::{Ledgers, Refusals, WorkerTypes};
 use std::alloc::Global;
 use std::sync::Wait;
 use std::sync::ledger::Share;
@@ -19,23 +19,23 @@ use std::thread::Threads;
 
 /// A client's link, the address and the port that it has there, and the number of the connection as which it is served.
 #[derive(Drop)]
-pub(crate) struct ClientLink<N: NetTypes> {
+pub(crate) struct ClientLink<W: WorkerTypes> {
     pub(crate) conn: ConnNo,
-    pub(crate) from: <N::L as Listener>::In,
-    pub(crate) to: <N::L as Listener>::Outgo,
+    pub(crate) from: <W::L as Listener>::In,
+    pub(crate) to: <W::L as Listener>::Outgo,
     pub(crate) addr: Addr,
     pub(crate) port: u16,
 }
 
 /// Serves a link. Its session begins with shares of its own in which nothing is counted;
 /// what it asked and was granted is added to the sums.
-pub(crate) fn attend<R: Threads + Wait + Sync, N: NetTypes, D: DeskCalls, B: Ledgers>(
+pub(crate) fn attend<R: Threads + Wait + Sync, W: WorkerTypes, D: DeskCalls, B: Ledgers>(
     rt: &R,
     alloc: Global,
     rooms: &SessionRooms<'_, D, B>,
-    link: ClientLink<N>,
-    dialer: &mut N::D,
-    clock: N::C,
+    link: ClientLink<W>,
+    dialer: &mut W::D,
+    clock: W::C,
     refused: &mut Share<Refusals<B>>,
     sums: &mut Sums<B>,
 ) -> SessionEnd
@@ -59,7 +59,7 @@ pub(crate) fn attend<R: Threads + Wait + Sync, N: NetTypes, D: DeskCalls, B: Led
         refused: refused.split_off(1, 0),
         granted: grants.split_off(1, 0),
     };
-    let (end, back) = serve_link::<R, N, D, B>(rt, alloc, rooms, link, dialer, clock, theirs);
+    let (end, back) = serve_link::<R, W, D, B>(rt, alloc, rooms, link, dialer, clock, theirs);
     asked.merge(back.asked);
     refused.merge(back.refused);
     grants.merge(back.granted);
@@ -69,13 +69,13 @@ pub(crate) fn attend<R: Threads + Wait + Sync, N: NetTypes, D: DeskCalls, B: Led
 }
 
 // Serves a link with these shares, in which nothing is counted yet.
-fn serve_link<R: Threads + Wait + Sync, N: NetTypes, D: DeskCalls, B: Ledgers>(
+fn serve_link<R: Threads + Wait + Sync, W: WorkerTypes, D: DeskCalls, B: Ledgers>(
     rt: &R,
     alloc: Global,
     rooms: &SessionRooms<'_, D, B>,
-    link: ClientLink<N>,
-    dialer: &mut N::D,
-    clock: N::C,
+    link: ClientLink<W>,
+    dialer: &mut W::D,
+    clock: W::C,
     shares: Shares<B>,
 ) -> (SessionEnd, Shares<B>)
     requires asked { (shares.asked.parts ≡ 1) × (shares.asked.amount ≡ 0) }
@@ -109,7 +109,7 @@ fn serve_link<R: Threads + Wait + Sync, N: NetTypes, D: DeskCalls, B: Ledgers>(
         granted,
     );
     let mut front = HubFront::new(rt, hub, conn);
-    let mut client: Duplex<(<N::L as Listener>::In, <N::L as Listener>::Outgo)> = Duplex {
+    let mut client: Duplex<(<W::L as Listener>::In, <W::L as Listener>::Outgo)> = Duplex {
         from: Half {
             source: from,
             ahead: Ahead::new(alloc),

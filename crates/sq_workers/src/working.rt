@@ -9,7 +9,7 @@ use crate::sums::{Sums, both};
 use sq_base::ConnNo;
 use sq_calls::DeskCalls;
 use sq_outside::{Accepted, Another, Clock};
-use sq_shared::{Asks, Door, Grants, Ledgers, NetTypes, Refusals, accept};
+use sq_shared::{Asks, Door, Grants, Ledgers, Refusals, WorkerTypes, accept};
 use std::alloc::Global;
 use std::sync::ledger::Share;
 use std::sync::{Mutex, Wait};
@@ -17,14 +17,14 @@ use std::thread::{Threads, join};
 
 /// What a worker dials with, and its clock.
 #[derive(Drop)]
-pub struct WorkerTools<N: NetTypes> {
-    pub dialer: N::D,
-    pub clock: N::C,
+pub struct WorkerTools<W: WorkerTypes> {
+    pub dialer: W::D,
+    pub clock: W::C,
 }
 
-impl<N: NetTypes> WorkerTools<N> {
+impl<W: WorkerTypes> WorkerTools<W> {
     // Those of another worker.
-    fn another(&self) -> WorkerTools<N> {
+    fn another(&self) -> WorkerTools<W> {
         WorkerTools {
             dialer: self.dialer.another(),
             clock: self.clock.another(),
@@ -34,13 +34,13 @@ impl<N: NetTypes> WorkerTools<N> {
 
 // Takes one link after the other and serves it as the connection of this number, until the listener stops. Where a call
 // of the listener failed, it pauses and tries again: the fault stands at the door.
-fn work<R: Threads + Wait + Sync, N: NetTypes, D: DeskCalls, B: Ledgers>(
+fn work<R: Threads + Wait + Sync, W: WorkerTypes, D: DeskCalls, B: Ledgers>(
     rt: &R,
     alloc: Global,
-    door: &Mutex<Door<N::L>>,
+    door: &Mutex<Door<W::L>>,
     rooms: &SessionRooms<'_, D, B>,
     conn: ConnNo,
-    tools: WorkerTools<N>,
+    tools: WorkerTools<W>,
     mut sums: Sums<B>,
     mut refused: Share<Refusals<B>>,
 ) -> Sums<B>
@@ -70,7 +70,7 @@ fn work<R: Threads + Wait + Sync, N: NetTypes, D: DeskCalls, B: Ledgers>(
                     port,
                 };
                 let theirs = clock.another();
-                let _end = attend::<R, N, D, B>(
+                let _end = attend::<R, W, D, B>(
                     rt,
                     alloc,
                     rooms,
@@ -142,15 +142,15 @@ fn split<B: Ledgers>(shares: Shares<B>, parts: u64) -> (Shares<B>, Shares<B>)
 /// share: one stays with it, one goes with its sessions. What comes back are the sums over all sessions.
 pub fn work_all<
     R: Threads + Wait + Sync,
-    N: NetTypes + Send,
+    W: WorkerTypes + Send,
     D: DeskCalls + Send,
     B: Ledgers + Send + Sync,
 >(
     rt: &R,
     alloc: Global,
-    door: &Mutex<Door<N::L>>,
+    door: &Mutex<Door<W::L>>,
     rooms: &SessionRooms<'_, D, B>,
-    tools: WorkerTools<N>,
+    tools: WorkerTools<W>,
     first: u32,
     count: u32,
     shares: Shares<B>,
@@ -171,7 +171,7 @@ pub fn work_all<
         } = shares;
         let conn = ConnNo(u64::from(first));
         let sums = nothing(asked, granted);
-        return work::<R, N, D, B>(rt, alloc, door, rooms, conn, tools, sums, refused);
+        return work::<R, W, D, B>(rt, alloc, door, rooms, conn, tools, sums, refused);
     }
     let low = count / 2;
     let high = count - low;
@@ -182,29 +182,25 @@ pub fn work_all<
     let (one, other) = join(
         rt,
         move || -> Sums<B>
-            requires { IsSync R.row × IsSend N.row × IsSend D.row × IsSend B.row × IsSync B.row
-                × IsSend N.L.row × IsSend N.L.In.row × IsSend N.L.Outgo.row × IsSend N.T.row
-                × IsSend N.D.row × IsSend N.D.In.row × IsSend N.D.Outgo.row
-                × IsSend N.S.row × IsSend N.S.ChildOut.row × IsSend N.S.ChildIn.row
-                × IsSend N.C.row × IsSend N.Q.row
+            requires { IsSync R.row × IsSend W.row × IsSend D.row × IsSend B.row × IsSync B.row
+                × IsSend W.L.row × IsSend W.L.In.row × IsSend W.L.Outgo.row
+                × IsSend W.D.row × IsSend W.D.In.row × IsSend W.D.Outgo.row × IsSend W.C.row
                 × (0 < low) × (first + low < 2 ^ 32)
                 × (shares_low.asked.parts ≡ low + low) × (shares_low.asked.amount ≡ 0)
                 × (shares_low.refused.parts ≡ low + low)
                 × (shares_low.granted.parts ≡ low + low) × (shares_low.granted.amount ≡ 0) }
             ensures { (result.asked.parts ≡ low + low) × (result.grants.parts ≡ low + low) }
-        { work_all::<R, N, D, B>(rt, alloc, door, rooms, tools_low, first, low, shares_low) },
+        { work_all::<R, W, D, B>(rt, alloc, door, rooms, tools_low, first, low, shares_low) },
         move || -> Sums<B>
-            requires { IsSync R.row × IsSend N.row × IsSend D.row × IsSend B.row × IsSync B.row
-                × IsSend N.L.row × IsSend N.L.In.row × IsSend N.L.Outgo.row × IsSend N.T.row
-                × IsSend N.D.row × IsSend N.D.In.row × IsSend N.D.Outgo.row
-                × IsSend N.S.row × IsSend N.S.ChildOut.row × IsSend N.S.ChildIn.row
-                × IsSend N.C.row × IsSend N.Q.row
+            requires { IsSync R.row × IsSend W.row × IsSend D.row × IsSend B.row × IsSync B.row
+                × IsSend W.L.row × IsSend W.L.In.row × IsSend W.L.Outgo.row
+                × IsSend W.D.row × IsSend W.D.In.row × IsSend W.D.Outgo.row × IsSend W.C.row
                 × (0 < high) × (next + high < 2 ^ 32)
                 × (shares.asked.parts ≡ high + high) × (shares.asked.amount ≡ 0)
                 × (shares.refused.parts ≡ high + high)
                 × (shares.granted.parts ≡ high + high) × (shares.granted.amount ≡ 0) }
             ensures { (result.asked.parts ≡ high + high) × (result.grants.parts ≡ high + high) }
-        { work_all::<R, N, D, B>(rt, alloc, door, rooms, tools, next, high, shares) },
+        { work_all::<R, W, D, B>(rt, alloc, door, rooms, tools, next, high, shares) },
     );
     both(one, other)
 }

@@ -15,13 +15,6 @@ scoped-requires g c = record {
       search rules,
       search rules,
       search rules,
-      search rules,
-      search rules,
-      search rules,
-      search rules,
-      search rules,
-      search rules,
-      search rules,
     ),
     search rules depth 60 fits 60000,
   );
