@@ -1,6 +1,7 @@
 # Splits a file of cases into what ./test runs: `awk -v to=FOLDER -f cases/split.awk FILE`. Block N gives FOLDER/N.shows
 # and N.conf, and each run of a command over it N.M.wanted (what must be written, and the status) and, for `replay`,
-# N.M.script, for `verify` N.M.journal. The status is 1 where the file has a block without a run or a line of no form.
+# N.M.script, for `verify` N.M.journal, for `migrate` N.M.migrated. The status is 1 where the file has a block without a
+# run or a line of no form.
 #
 #     == SHOWS                       begins a block; the lines behind it are squid.conf, up to the first of these:
 #     => LINE                        `parse` writes this line. Where it is an error, `replay` writes it of any script.
@@ -9,6 +10,9 @@
 #     + LINE                         `replay` writes this line
 #     | LINE                         `verify` is given the line of a journal; `|` alone begins a journal
 #     |> LINE                        `verify` writes this line; the next line of a journal begins another one
+#     :+ LINE                        the line is an entry: `migrate` is given it, behind a `begin` if it is none itself,
+#                                    and writes the journal of version 2
+#     :- LINE                        the line is none: `migrate` is given it likewise, and says so
 #     CLIENT METHOD TARGET [FIELD ..] => OUTCOME
 #                                    a request of a client comes to this, or is `refused`, which ends the run. A day and
 #                                    a time (`Mon 09:00`) may stand before; they may not fall within a run
@@ -16,7 +20,7 @@
 # What stands behind the end of a run begins another one over the same squid.conf. In all of these <CR>, <TAB> and <FF>
 # (two hexadecimal digits) are bytes, <a*9> is a text so many times, and <> is nothing. A line that begins with <1..9>
 # stands once for each number, which is <n> in it, with <n-1>. A line that ends with <END> has no LF. A block with
-# <each A B ..> in its squid.conf stands once for each of these words.
+# <each A B ..> in a line stands once for each of these words.
 
 function complain(line, what) {
     print FILENAME ", line " line ": " what >"/dev/stderr"
@@ -121,10 +125,30 @@ function begin_journal() {
     told = 0
 }
 
+# A run of `migrate` over a journal of one line, which stands behind a `begin` unless it has that word.
+function migrate(line, is_entry,    number, epoch) {
+    if (run != "") end_run()
+    run = sprintf("%s.%02d", block, ++runs)
+    printf "" >(run ".migrated")
+    number = epoch = 1
+    if (line !~ /[Bb]egin/) {
+        put(run ".migrated", "0 begin 0 => epoch 1")
+        print "journal 2" >(run ".wanted")
+        print "1 1 0 begin 0 => epoch 1" >(run ".wanted")
+        number = 2
+    } else if (is_entry) print "journal 2" >(run ".wanted")
+    if (line ~ /^[0-9]+ reconfigure /) epoch = 2
+    put(run ".migrated", line)
+    last = is_entry ? (number " " epoch " " line) : ("error script " number)
+    print last >(run ".wanted")
+    end_run()
+}
+
 function end_run() {
     print "status " status(last) >(run ".wanted")
     close(run ".script")
     close(run ".journal")
+    close(run ".migrated")
     close(run ".wanted")
     run = ""
 }
@@ -178,6 +202,9 @@ function take(line, number,    cut, given_line, answer) {
         in_conf = 0
         begin_journal()
         if (line ~ /^[|] /) put(run ".journal", expanded(substr(line, 3)))
+    } else if (line ~ /^:[+-] /) {
+        in_conf = 0
+        migrate(expanded(substr(line, 4)), line ~ /^:[+]/)
     } else if (line ~ /^[+] /) {
         in_conf = 0
         begin_run()

@@ -42,6 +42,8 @@ for subject in cases/*.txt; do
             "$program" replay "$block.conf" "$run.script" >"$run.printed"
         elif [ -f "$run.journal" ]; then
             "$program" verify "$block.conf" "$run.journal" >"$run.printed"
+        elif [ -f "$run.migrated" ]; then
+            "$program" migrate "$run.migrated" >"$run.printed"
         else
             "$program" parse "$block.conf" >"$run.printed"
         fi
@@ -118,6 +120,25 @@ says 0 'asks 2000 allowed 879 denied 1121 faults 0 sends 1417' rehearse 2000
 # A configuration is judged before the script or the journal is opened.
 says 2 'error config 1 8' replay f none
 says 2 'error config 1 8' verify f none
+# An output that is full ends a run; a last line that it has no room for leaves the status.
+echo '0 fly 1' >"$folder/fly"
+full() {
+    wanted="status $1"
+    shift
+    ends_so "words, where the output is full: $*" "$(cd "$folder" && "$program" "$@" </dev/null >/dev/full; echo "status $?")" "$wanted"
+}
+if [ -c /dev/full ]; then
+    full 5 parse c
+    full 5 replay c s
+    full 5 rehearse 4
+    full 1 replay c
+    full 2 parse f
+    full 3 replay c fly
+    full 4 parse .
+    full 7 replay x s
+else
+    echo "words, where the output is full: left out, since there is no /dev/full"
+fi
 rm -rf "$folder"
 # What `replay` writes is a journal of version 1; `migrate` makes one of version 2 of it, and both are verified.
 folder=$(mktemp -d)

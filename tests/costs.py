@@ -7,9 +7,9 @@
     tests/costs.py functions CRATE       prints what each function of a crate took in `rt check` or `rt test`, if nothing was kept
                                          before (`rm -r crates/CRATE/out/incremental`): seconds, and megabytes to be proved
 
-The toolchain's own log has no times. So this looks at the processes twice a second: the time of a processor that each check took, with
+The toolchain's own log has no times. So this looks at the processes every second: the time of a processor that each check took, with
 the processes that it began, and when it was first and last seen. A check is of a crate's proof, of its tests, or of an edit, which is tried in
-a folder of its own. `COSTS=LOG ./test` measures the gate. The numbers are those of a run from nothing, where nothing was kept.
+a folder of its own. `./test` measures the gate by it, and `COSTS=LOG ./test` keeps the log. The numbers are those of a run from nothing, where nothing was kept.
 A second of one machine is not one of another, and one of a processor that shares its core not one of a processor that has it alone:
 so it times, every half minute, how long counting to a million takes. Where a run was stopped and gone on with, as `rt ci` does
 with what it kept, all logs are given, in their order: what a later one has takes the place of what an earlier one had, and edits of
@@ -84,7 +84,7 @@ def run(log, command):
     ran = subprocess.Popen(command)
     checks, counts, kept = {}, [], 0
     while ran.poll() is None:
-        time.sleep(0.5)
+        time.sleep(1)
         now = time.time() - begun
         if now - kept >= EVERY:
             kept = now

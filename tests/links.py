@@ -28,19 +28,23 @@ from chaos_parts.server import Server, free_port, reply_of, stat_of  # noqa: E40
 HERE = Path(__file__).resolve().parent
 PATIENCE = 30.0  # the seconds after which a wait has failed
 PLAIN = "acl SSL_ports port 1-65535\nacl CONNECT method CONNECT\nhttp_access allow all\n"
-# Each class has a host of its own, which its helper is asked about: one that is silent, one that reads nothing, one that answers.
+# Each class has a path of its own, which its helper is asked about: one that is silent, one that reads nothing, one that reads late
+# what it answers, one that answers.
 HELPED = (
     "external_acl_type silent concurrency=4 children-max=1 queue-size=10 %>rp /bin/sh ./helper silent\n"
     "external_acl_type deaf concurrency=100 children-max=1 %>rp /bin/sh ./helper deaf\n"
-    "external_acl_type good ttl=0 children-max=1 %>rp /bin/sh ./helper good\n"
-    "acl is_silent external silent\nacl is_deaf external deaf\nacl is_good external good\n"
-    "acl to_silent url_regex /silent-helper\nacl to_deaf url_regex /deaf-helper\n"
-    "http_access deny to_silent !is_silent\nhttp_access deny to_deaf !is_deaf\nhttp_access deny !is_good\nhttp_access allow all\n"
+    "external_acl_type late concurrency=100 children-max=1 %>rp /bin/sh ./helper late\n"
+    "external_acl_type good ttl=0 children-max=1 queue-size=100 %>rp /bin/sh ./helper good\n"
+    "acl is_silent external silent\nacl is_deaf external deaf\nacl is_late external late\nacl is_good external good\n"
+    "acl to_silent url_regex /silent-helper\nacl to_deaf url_regex /deaf-helper\nacl to_late url_regex /late-helper\n"
+    "http_access deny to_silent !is_silent\nhttp_access deny to_deaf !is_deaf\nhttp_access deny to_late !is_late\n"
+    "http_access deny !is_good\nhttp_access allow all\n"
 )
 HELPER = """echo $$ >>pids
 case $1 in
 silent) cat >/dev/null ;;
 deaf) exec sleep 600 ;;
+late) sleep 2; while read -r channel key rest; do echo "$channel OK"; done ;;
 esac
 while read -r key rest; do echo OK; done
 """
@@ -336,7 +340,7 @@ def shutdown(bench: Bench) -> None:
     }
     used = bench.tunnel()
     begun = time.monotonic()
-    until = begun + (40 if LONG else 4)
+    until = begun + 4
     lasted = [0.0]
     took: dict[str, float] = {}
 
@@ -370,26 +374,41 @@ def shutdown(bench: Bench) -> None:
         one.join(60)
     for name in groups:
         bench.check(name, took[name] < 1.5, took[name])
-    if LONG:
-        bench.check("half a minute for a tunnel that is used", 29 < lasted[0] < 32, lasted)
-    else:
-        bench.check("a tunnel that is used", lasted[0] > 3.5, lasted)
+    bench.check("a tunnel that is used", lasted[0] > 3.5, lasted)
     used.close()
     said = f"{server.hear(PATIENCE)}, status {server.ends(5)}"
     bench.check("the end of the first", said == "stopped, status 0", said)
 
 
-def silence(bench: Bench) -> None:
-    """A tunnel that is silent gives way after 10 seconds where it is wanted, and after 2 minutes where it is not."""
+def crowded_tunnels(bench: Bench) -> None:
+    """A tunnel that is silent gives way after 10 seconds where it is wanted."""
     server = bench.start(2)
-    first, second = bench.tunnel(), bench.tunnel()
-    begun = time.monotonic()
+    tunnels = [bench.tunnel(), bench.tunnel()]
     link, took = bench.get()
     bench.check("a client at silent tunnels", 9 < took < 12, took)
-    link.close()
-    left = first if time_of_end(second, begun, 1) < 1 else second
-    took = time_of_end(left, begun, 150)
-    bench.check("the other tunnel", took > 9, took)
+    for one in [link, *tunnels]:
+        one.close()
+    bench.check("its end", (said := bench.ends(server)) == "stopped, status 0", said)
+
+
+def last_links(bench: Bench) -> None:
+    """A tunnel on which bytes pass goes on for half a minute behind the order to end, and then the server ends."""
+    server = bench.start(2)
+    used = bench.tunnel()
+    server.order("shutdown\n")
+    begun = time.monotonic()
+    while time.monotonic() < begun + 40 and echoes(used, b"line\n"):
+        time.sleep(0.1)
+    took = time.monotonic() - begun
+    bench.check("a tunnel that is used", 29 < took < 32, took)
+    used.close()
+    said = f"{server.hear(PATIENCE)}, status {server.ends(5)}"
+    bench.check("its end", said == "stopped, status 0", said)
+
+
+def silence(bench: Bench) -> None:
+    """A tunnel that is silent is cut after 2 minutes, and not before, where it is wanted by nobody."""
+    server = bench.start(2)
     one = bench.tunnel()
     begun = time.monotonic()
     took = time_of_end(one, begun, 150)
@@ -399,9 +418,17 @@ def silence(bench: Bench) -> None:
 
 def helpers(bench: Bench) -> None:
     """A helper that is silent, and one that does not read its questions, let those wait that ask them, and nobody else, not their
-    clients' leaving either; behind the order to end both are stopped after 5 seconds. No helper is left then."""
+    clients' leaving either; behind the order to end both are stopped after 5 seconds. No helper is left then. One that reads its
+    questions late, of which more came than a pipe has room for, has them all."""
     Path("helper").write_text(HELPER)
     server = bench.start(32, text=HELPED)
+    late = [bench.connect() for _ in range(20)]
+    for number, link in enumerate(late):
+        bench.ask(link, f"/late-helper/{number}/{'a' * 7000}")
+    replies = [reply_of(link) for link in late]
+    bench.check("all that is read late is answered", all(one.endswith(b"hello") for one in replies), replies[:3])
+    for link in late:
+        link.close()
     waiting = []
     for number in range(20):
         # More than a pipe has room for.
@@ -421,7 +448,7 @@ def helpers(bench: Bench) -> None:
     bench.check("a client behind those that left", took < 2, took)
     link.close()
     pids = [int(word) for word in Path("pids").read_text().split()]
-    bench.check("one process of each", len(pids) == 3, pids)
+    bench.check("one process of each", len(pids) == 4, pids)
     if LONG:
         begun = time.monotonic()
         left = [one for number, one in enumerate(waiting) if number % 3]
@@ -479,6 +506,28 @@ def unreachable(bench: Bench) -> None:
             link.close()
 
 
+def addresses(bench: Bench) -> None:
+    """A client is known by its address and port, over IPv6 too where the machine has it."""
+    server = bench.start(1)
+    opened = []
+    for host in ("127.0.0.1", "::1"):
+        try:
+            link = socket.create_connection((host, bench.port), timeout=PATIENCE)
+        except OSError as what:
+            bench.check(f"{host} is not there", host == "::1", what)
+            continue
+        bench.ask(link, "/hello")
+        reply = reply_of(link)
+        bench.check(f"a client at {host}", reply.endswith(b"hello"), reply)
+        opened.append(f" open 1 {host} {link.getsockname()[1]} => ok\n")
+        link.close()
+        time.sleep(0.3)
+    bench.check("its end", (said := bench.ends(server)) == "stopped, status 0", said)
+    journal = Path("journal").read_text()
+    bench.check("the clients in its journal", all(one in journal for one in opened), opened)
+    bench.check("its journal", (said := bench.verify()) == "verified", said)
+
+
 def shortages(bench: Bench) -> None:
     """Where its port is taken it ends by 9, where it gets not all of its threads by 10, each before it listens. Where files are wanting
     clients wait, and once they are there it is as if nothing had been."""
@@ -515,7 +564,9 @@ def shortages(bench: Bench) -> None:
     bench.check("its journal", (said := bench.verify()) == "verified", said)
 
 
-CHECKS = [silent_clients, idle_links, free_workers, clients_that_leave, shutdown, helpers, unreachable, shortages]
+CHECKS = [silent_clients, idle_links, free_workers, clients_that_leave, shutdown, helpers, unreachable, addresses, shortages]
+# Those that wait most of their time, which are made beside the others.
+SLOW_CHECKS = [crowded_tunnels, last_links]
 LONG_CHECKS = [silence]
 
 
@@ -542,14 +593,21 @@ def tried(bench: Bench, check: Callable[[Bench], None], folder: str) -> bool:
 def main() -> int:
     global LONG
     parser = argparse.ArgumentParser(description=__doc__, formatter_class=argparse.RawDescriptionHelpFormatter)
-    parser.add_argument("names", nargs="*", metavar="NAME", help=f"some of: {', '.join(one.__name__ for one in CHECKS + LONG_CHECKS)}")
+    known = {one.__name__: one for one in CHECKS + SLOW_CHECKS + LONG_CHECKS}
+    parser.add_argument("names", nargs="*", metavar="NAME", help=f"some of: {', '.join(known)}")
     parser.add_argument("--program", default=str(HERE.parent / "crates/sq_main/out/sq_main"))
     parser.add_argument("--long", action="store_true", help="try those, too, that take minutes")
     options = parser.parse_args()
     LONG = options.long
+    if unknown := [name for name in options.names if name not in known]:
+        parser.error(f"there is no {unknown[0]}")
     program = os.path.abspath(options.program)
     if not os.access(program, os.X_OK):
         parser.error(f"{program} is no program: build it first, or name it by --program")
+    beside = None
+    if not options.names:
+        slow = [one.__name__ for one in SLOW_CHECKS]
+        beside = subprocess.Popen([sys.executable, __file__, "--program", program, *slow], stdout=subprocess.PIPE, text=True)
     bench = Bench(program)
     top = tempfile.mkdtemp(prefix="links.")
 
@@ -557,17 +615,21 @@ def main() -> int:
         print(f"links, {bench.what}: it has not come to its end in time", flush=True)
         for one in bench.servers:
             one.kill()
+        if beside:
+            beside.kill()
         os._exit(1)
 
     signal.signal(signal.SIGALRM, give_up)
-    for check in CHECKS + (LONG_CHECKS if LONG else []):
-        if options.names and check.__name__ not in options.names:
-            continue
+    for check in [known[name] for name in options.names] or CHECKS + (LONG_CHECKS if LONG else []):
         # A check whose times do not hold is made once more: what else the machine does may have taken a second away.
         if not tried(bench, check, os.path.join(top, check.__name__)):
             print(f"links, {bench.what}: once more")
             bench.failed += not tried(bench, check, os.path.join(top, f"{check.__name__}-again"))
     os.chdir("/")
+    if beside:
+        said, _ = beside.communicate()
+        print(said, end="")
+        bench.failed += beside.returncode != 0
     if bench.failed:
         print(f"links: what they left stands in {top}")
     else:

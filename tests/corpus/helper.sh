@@ -7,6 +7,9 @@ while read -r path rest; do
     /bh*) echo BH ;;
     /bad*) echo 'it is known' ;;
     /die*) exit 0 ;;
+    /fits*) printf 'OK %065533d\n' 0 ;;
+    /over*) printf 'OK %065534d\n' 0 ;;
+    /much*) printf 'OK %0200000d\n' 0 ;;
     *) echo ERR ;;
     esac
 done

@@ -1,14 +1,2 @@
-mod DoneLaws
-mod EndLaws
-mod HalfwayLaws
-mod MigrateLaws
-mod MissingLaws
-mod OpenedLaws
-mod OptionLaws
-mod RehearseLaws
-mod SettleLaws
 mod ServiceLaws
-mod ShelfLaws
-mod StageLaws
 mod TrueLaws
-mod VerifyLaws

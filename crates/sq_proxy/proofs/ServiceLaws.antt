@@ -19,15 +19,15 @@ use Rattle.sq_control.specs.declared.panel.PanelEnd.{PanelEnd}
 use Rattle.sq_control.specs.declared.panel.PanelEnd.TheVariants as panel
 use Rattle.sq_control_reread.specs.declared.control.Reread.{Reread}
 use Rattle.sq_control.specs.Attending.{AreReread, FilesSeen, Runs, Seen, Streams}
-use Rattle.sq_proxy.specs.Commands.{conf_stage}
-use Rattle.sq_proxy.specs.Ends.{Comes, IfMissing, IsFault, IsOpenEnd, last_line}
-use Rattle.sq_proxy.specs.Opened.{IsOnce, first_text}
-use Rattle.sq_proxy.specs.Outputs.{IsSettled}
-use Rattle.sq_proxy.specs.Serving.{Server}
-use Rattle.sq_proxy.specs.declared.ends.Status.{Status}
-use Rattle.sq_proxy.specs.declared.ends.Status.TheVariants as ends
+use Rattle.sq_commands.specs.Commands.{conf_stage}
+use Rattle.sq_commands.specs.Ends.{Comes, IfMissing, IsFault, IsOpenEnd, last_line}
+use Rattle.sq_commands.specs.Opened.{IsOnce, first_text}
+use Rattle.sq_commands.specs.Outputs.{IsSettled}
+use Rattle.sq_commands.specs.Serving.{Server}
+use Rattle.sq_commands.specs.declared.ends.Status.{Status}
+use Rattle.sq_commands.specs.declared.ends.Status.TheVariants as ends
 use Rattle.sq_proxy.specs.Service.{CameTo, EndsByLine, EndsOver, EndsWell, IsConf, IsServed, IsServerEnd, IsService, IsServiceEnd, IsTrueOrEmpty, IsTrueOver, IsUnservedEnd, RunsOrNot, beginning_of, ended_status, port_of, server_seen, stopped_line}
-use Rattle.sq_proxy.proofs.EndLaws.{empty_line}
+use Rattle.sq_commands.proofs.EndLaws.{empty_line}
 use Rattle.sq_replay.specs.Openings.{Added}
 use Rattle.sq_replay.proofs.OpenedLaws.{Added_map}
 use Rattle.sq_proxy.proofs.TrueLaws.{journal_true, true_ran, true_unran}

@@ -18,12 +18,12 @@ use Rattle.sq_replay.specs.Openings.{Added}
 use Rattle.sq_control.specs.declared.panel.PanelEnd.{PanelEnd}
 use Rattle.sq_control.specs.declared.panel.PanelEnd.TheVariants as panel
 use Rattle.sq_control.specs.Attending.{FilesSeen, Runs, Streams}
-use Rattle.sq_proxy.specs.Commands.{conf_stage}
-use Rattle.sq_proxy.specs.Ends.{EndsBy, IfMissing, last_line}
-use Rattle.sq_proxy.specs.Opened.{IsOnce, first_text}
-use Rattle.sq_proxy.specs.Serving.{Server}
-use Rattle.sq_proxy.specs.declared.ends.Status.{Status}
-use Rattle.sq_proxy.specs.declared.ends.Status.TheVariants as ends
+use Rattle.sq_commands.specs.Commands.{conf_stage}
+use Rattle.sq_commands.specs.Ends.{EndsBy, IfMissing, last_line}
+use Rattle.sq_commands.specs.Opened.{IsOnce, first_text}
+use Rattle.sq_commands.specs.Serving.{Server}
+use Rattle.sq_commands.specs.declared.ends.Status.{Status}
+use Rattle.sq_commands.specs.declared.ends.Status.TheVariants as ends
 
 -- how a server ends whose panel ended so, by whether a note of its journal failed, and whether its
 -- listener did: of several faults by the one with the least code

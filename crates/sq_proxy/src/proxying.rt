@@ -3,21 +3,19 @@ ghost use Rattle.std.specs.Prelude.{◌≡◌, ◌≤◌, ◌↔◌, [], None, S
 ghost use Rattle.sq_outside.specs.Causes.{Rose};
 ghost use Rattle.sq_outside.specs.Told.{IsNotTold};
 ghost use Rattle.sq_outside.specs.Output.{Grew};
-ghost use Rattle.sq_proxy.specs.declared.ends.Status.TheVariants as ends;
-ghost use Rattle.sq_proxy.specs.Commands.{command_of, output_of, AuditsFiles, IsNamed, MigratesTruly, RunsTruly};
-ghost use Rattle.sq_proxy.specs.Ends.{EndsBy, EndsWithoutFault, IfMissing};
-ghost use Rattle.sq_proxy.specs.Opened.{CameOf};
-ghost use Rattle.sq_proxy.specs.Outputs.{IsOutput};
+ghost use Rattle.sq_commands.specs.declared.ends.Status.TheVariants as ends;
+ghost use Rattle.sq_commands.specs.Commands.{command_of, output_of, AuditsFiles, IsNamed, MigratesTruly, RunsTruly};
+ghost use Rattle.sq_commands.specs.Ends.{EndsBy, EndsWithoutFault, IfMissing};
+ghost use Rattle.sq_commands.specs.Opened.{CameOf};
+ghost use Rattle.sq_commands.specs.Outputs.{IsOutput};
 ghost use Rattle.sq_proxy.specs.Service.{IsService};
-ghost use Rattle.sq_proxy.specs.Serving.{service_of};
+ghost use Rattle.sq_commands.specs.Serving.{service_of};
 ghost use Rattle.sq_replay.specs.Openings.{Added};
 
-use crate::ends::Status;
-use crate::options::read_service;
 use crate::serving::serve_service;
-use crate::top::run_command;
 use crate::world::{Platform, World};
 use sq_base::Text;
+use sq_commands::{Status, read_service, run_command};
 use std::alloc::Global;
 use std::sync::Wait;
 use std::thread::Threads;

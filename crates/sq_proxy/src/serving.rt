@@ -3,18 +3,15 @@ ghost use Rattle.std.specs.Prelude.{◌≡◌, ◌⊎◌, ◌≤◌, ◌<◌, �
 ghost use Rattle.std.specs.Io.KnownBytes.{Appends};
 ghost use Rattle.sq_outside.specs.Causes.{Rose};
 ghost use Rattle.sq_outside.specs.Output.{Grew, IsProperPrefix};
-ghost use Rattle.sq_proxy.specs.declared.ends.Status.TheVariants as ends;
-ghost use Rattle.sq_proxy.specs.Outputs.{IsSettled};
+ghost use Rattle.sq_commands.specs.declared.ends.Status.TheVariants as ends;
+ghost use Rattle.sq_commands.specs.Outputs.{IsSettled};
 ghost use Rattle.sq_proxy.specs.Service.{CameTo, IsServed, IsService, stopped_line};
-ghost use Rattle.sq_proxy.specs.Serving.{shown_service};
+ghost use Rattle.sq_commands.specs.Serving.{shown_service};
 
-use crate::ends::Status;
 use crate::held::{Back, run_panel};
-use crate::last_line::finish;
-use crate::options::{Options, Service};
-use crate::stages::open_conf;
 use crate::world::{Platform, World};
 use sq_base::Text;
+use sq_commands::{Options, Service, Status, finish, open_conf};
 use sq_control::{ControlPanel, take_back};
 use sq_machine::Offset;
 use sq_outside::{Failed, Net, Parts, Sink, write_line};

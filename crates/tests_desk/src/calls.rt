@@ -12,7 +12,6 @@ use sq_machine::{Event, Told};
 use sq_model_rows::Stepped;
 use sq_model_state::copy_outcome;
 use sq_request::make_request;
-use sq_rules::{Outcome, Why};
 use sq_urlmatch::Setup;
 use std::alloc::Global;
 use std::process::Abort;
@@ -272,78 +271,9 @@ pub fn call_hub<H: Hub>(rt: &impl Abort, alloc: Global, hub: &mut H, event: Even
     }
 }
 
-// Whether two outcomes are one.
-fn is_same_outcome(a: &Outcome, b: &Outcome) -> bool {
-    let why = match (&a.why, &b.why) {
-        (Why::Rule(a), Why::Rule(b)) => a == b,
-        (Why::Default, Why::Default) => true,
-        (Why::Empty, Why::Empty) => true,
-        (
-            Why::Fault {
-                rule: a,
-                acl: x,
-                cause: c,
-            },
-            Why::Fault {
-                rule: b,
-                acl: y,
-                cause: d,
-            },
-        ) => a == b && x.as_bytes() == y.as_bytes() && c == d,
-        _ => false,
-    };
-    why && a.allow == b.allow
-}
-
 /// Whether two answers are one.
-pub fn is_same(a: &Told, b: &Told) -> bool {
-    match (a, b) {
-        (Told::Fine, Told::Fine)
-        | (Told::Done, Told::Done)
-        | (Told::Bad, Told::Bad)
-        | (Told::Stray, Told::Stray) => true,
-        (Told::Epoch(a), Told::Epoch(b)) => a == b,
-        (Told::Check(a), Told::Check(b)) => a == b,
-        (Told::Took(a), Told::Took(b)) => a.as_bytes() == b.as_bytes(),
-        (Told::Waits(a), Told::Waits(b)) => a == b,
-        (Told::Proc(a), Told::Proc(b)) => a == b,
-        (Told::Stop(a), Told::Stop(b)) => a == b,
-        (
-            Told::Judged {
-                epoch: a,
-                outcome: x,
-            },
-            Told::Judged {
-                epoch: b,
-                outcome: y,
-            },
-        ) => a == b && is_same_outcome(x, y),
-        (
-            Told::Reply {
-                question: a,
-                word: x,
-            },
-            Told::Reply {
-                question: b,
-                word: y,
-            },
-        ) => a == b && x == y,
-        (Told::Start { epoch: a, class: x }, Told::Start { epoch: b, class: y }) => a == b
-            && x.as_bytes() == y.as_bytes(),
-        (
-            Told::Send {
-                proc: a,
-                question: q,
-                channel: c,
-                key: x,
-            },
-            Told::Send {
-                proc: b,
-                question: r,
-                channel: d,
-                key: y,
-            },
-        ) => a == b && q == r && c == d && x.as_bytes() == y.as_bytes(),
-        _ => false,
-    }
+pub fn is_same(rt: &impl Abort, alloc: Global, a: &Told, b: &Told) -> bool {
+    let a = format!(in alloc; "{a:?}").expect(rt, "memory");
+    let b = format!(in alloc; "{b:?}").expect(rt, "memory");
+    a.as_str() == b.as_str()
 }

@@ -1,9 +1,9 @@
-//! A desk that runs a job, and what comes of it.
+//! A desk that runs the job, and what comes of it.
 ghost use Rattle.std.specs.Prelude.{◌≡◌, pos, []};
 ghost use Rattle.sq_journal_writers.specs.Memory.{mem_history};
 
 use crate::calls::{Gave, call, call_helper, call_hub, is_same, setup_of};
-use crate::jobs::{BEGIN, CONF, Job, lines_of};
+use crate::jobs::{BEGIN, CONF, LINES};
 use sq_base::Moment;
 use sq_cache::HashSeed;
 use sq_calls::{DeskCalls, DeskFault, HelperCalls};
@@ -20,7 +20,7 @@ use std::process::Abort;
 /// For how many entries a journal has room.
 const ROOM: usize = 100;
 
-/// What came of a job. Each call has a mark: `.` where it was made and told what the line says, `B` of a bad or stray
+/// What came of the job. Each call has a mark: `.` where it was made and told what the line says, `B` of a bad or stray
 /// line, `-` where no act was due, `R` where the machine refused it, `J` where the note failed, `S` where the desk had
 /// stopped, `M` where memory was wanting, and `x` where something else came than the line says.
 #[derive(Drop)]
@@ -41,8 +41,8 @@ fn fault_mark(fault: DeskFault) -> &'static str {
 }
 
 // The mark of an answer, where this is wanted.
-fn told_mark(told: &Told, wanted: &Told) -> &'static str {
-    if !is_same(told, wanted) {
+fn told_mark(rt: &impl Abort, alloc: Global, told: &Told, wanted: &Told) -> &'static str {
+    if !is_same(rt, alloc, told, wanted) {
         return "x";
     }
     match told {
@@ -52,9 +52,9 @@ fn told_mark(told: &Told, wanted: &Told) -> &'static str {
 }
 
 /// The mark of what a call gave, where this is wanted.
-pub fn gave_mark(gave: &Gave, wanted: &Told) -> &'static str {
+pub fn gave_mark(rt: &impl Abort, alloc: Global, gave: &Gave, wanted: &Told) -> &'static str {
     match gave {
-        Ok(Some(told)) => told_mark(told, wanted),
+        Ok(Some(told)) => told_mark(rt, alloc, told, wanted),
         Ok(None) => "x",
         Err(fault) => fault_mark(*fault),
     }
@@ -63,12 +63,12 @@ pub fn gave_mark(gave: &Gave, wanted: &Told) -> &'static str {
 /// The mark of a line whose call a hub makes, at the moment of its clock.
 pub fn hub_mark<H: Hub>(rt: &impl Abort, alloc: Global, hub: &mut H, row: &str) -> &'static str {
     let Entry { event, answer, .. } = read_entry(alloc, row.as_bytes()).expect(rt, "an entry");
-    gave_mark(&call_hub(rt, alloc, hub, event), &answer)
+    gave_mark(rt, alloc, &call_hub(rt, alloc, hub, event), &answer)
 }
 
 /// Whether the call of a line adds an entry, where nothing fails.
 pub fn is_noted(row: &str) -> bool {
-    !(row.ends_with(" => refused") || row.ends_with(" => none") || row.ends_with(" => wanting"))
+    !(row.ends_with(" => refused") || row.ends_with(" => none"))
 }
 
 // The moment and the event of a line, and the answer that is wanted, where its call adds an entry.
@@ -83,19 +83,20 @@ fn read_row(rt: &impl Abort, alloc: Global, row: &str) -> (Moment, Event, Option
 }
 
 // The mark of what a call gave, where this is wanted, or no entry.
-fn row_mark(gave: &Gave, wanted: &Option<Told>) -> &'static str {
+fn row_mark(rt: &impl Abort, alloc: Global, gave: &Gave, wanted: &Option<Told>) -> &'static str {
     match (wanted, gave) {
-        (Some(wanted), gave) => gave_mark(gave, wanted),
+        (Some(wanted), gave) => gave_mark(rt, alloc, gave, wanted),
         (None, Ok(None)) => "-",
         (None, Ok(Some(_))) => "x",
         (None, Err(fault)) => fault_mark(*fault),
     }
 }
 
-/// The mark of a line.
-pub fn mark<D: DeskCalls>(rt: &impl Abort, alloc: Global, desk: &mut D, row: &str) -> &'static str {
+// The mark of a line.
+fn mark<D: DeskCalls>(rt: &impl Abort, alloc: Global, desk: &mut D, row: &str) -> &'static str {
     let (moment, event, wanted) = read_row(rt, alloc, row);
-    row_mark(&call(rt, alloc, desk, event, moment), &wanted)
+    let gave = call(rt, alloc, desk, event, moment);
+    row_mark(rt, alloc, &gave, &wanted)
 }
 
 /// The mark of a line whose call a thread of a helper process makes.
@@ -106,7 +107,8 @@ pub fn helper_mark<D: HelperCalls>(
     row: &str,
 ) -> &'static str {
     let (moment, event, wanted) = read_row(rt, alloc, row);
-    row_mark(&call_helper(rt, alloc, desk, event, moment), &wanted)
+    let gave = call_helper(rt, alloc, desk, event, moment);
+    row_mark(rt, alloc, &gave, &wanted)
 }
 
 /// Puts a part behind a text.
@@ -114,27 +116,17 @@ pub fn append(rt: &impl Abort, text: &mut String, part: &str) {
     text.push_str(part).expect(rt, "memory");
 }
 
-// Makes the calls of the lines. Where memory was wanting the call is made once more, but for a line that wants that.
-fn run_lines<D: DeskCalls>(rt: &impl Abort, alloc: Global, desk: &mut D, lines: &str) -> String {
+// Makes the calls of the job.
+fn run_lines<D: DeskCalls>(rt: &impl Abort, alloc: Global, desk: &mut D) -> String {
     let mut marks = String::new(alloc);
-    for row in lines.lines() {
-        let first = mark(rt, alloc, desk, row);
-        append(rt, &mut marks, first);
-        if first == "M" && !row.ends_with(" => wanting") {
-            append(rt, &mut marks, mark(rt, alloc, desk, row));
-        }
+    for row in LINES.lines() {
+        append(rt, &mut marks, mark(rt, alloc, desk, row));
     }
     marks
 }
 
 // A desk begins over the journal, and runs the job.
-fn run_job<R: Abort, F: DeskStart>(
-    rt: &R,
-    alloc: Global,
-    setup: Setup,
-    journal: MemJournal,
-    job: Job,
-) -> Ran
+fn run_job<R: Abort, F: DeskStart>(rt: &R, alloc: Global, setup: Setup, journal: MemJournal) -> Ran
     requires first { F.first ≡ record { config = setup; offset = pos 0 } }
     requires empty { mem_history journal ≡ [] }
 {
@@ -142,7 +134,7 @@ fn run_job<R: Abort, F: DeskStart>(
     let begun = Desk::<MemJournal, F>::new(alloc, setup, Offset(0), journal, Moment(0), seed);
     match begun {
         Ok(mut desk) => {
-            let marks = run_lines(rt, alloc, &mut desk, lines_of(job));
+            let marks = run_lines(rt, alloc, &mut desk);
             let refusals = desk.refusals();
             Ran {
                 marks,
@@ -162,11 +154,11 @@ fn run_job<R: Abort, F: DeskStart>(
     }
 }
 
-/// What comes of a job over a journal of which these notes fail, and these reserves.
-pub fn run<R: Abort>(rt: &R, alloc: Global, fails: Vec<u64>, wants: Vec<u64>, job: Job) -> Ran {
+/// What comes of the job over a journal of which these notes fail.
+pub fn run<R: Abort>(rt: &R, alloc: Global, fails: Vec<u64>) -> Ran {
     let setup = setup_of(rt, alloc, CONF.as_bytes());
-    let journal = MemJournal::new(alloc, ROOM, fails, wants).expect(rt, "memory");
-    run_job::<R, Brand>(rt, alloc, setup, journal, job)
+    let journal = MemJournal::new(alloc, ROOM, fails, Vec::new(alloc)).expect(rt, "memory");
+    run_job::<R, Brand>(rt, alloc, setup, journal)
 }
 
 // Whether the text of an entry is this.
@@ -175,8 +167,8 @@ fn is_text(rt: &impl Abort, alloc: Global, entry: &Entry, text: &str) -> bool {
     printed.as_bytes() == text.as_bytes()
 }
 
-/// Whether these entries are the first of a job that is made whole.
-pub fn is_front(rt: &impl Abort, alloc: Global, entries: &[Entry], job: Job) -> bool {
+/// Whether these entries are the first of the job that is made whole.
+pub fn is_front(rt: &impl Abort, alloc: Global, entries: &[Entry]) -> bool {
     let mut rest = entries.iter();
     let Some(first) = rest.next() else {
         return true;
@@ -184,7 +176,7 @@ pub fn is_front(rt: &impl Abort, alloc: Global, entries: &[Entry], job: Job) -> 
     if !is_text(rt, alloc, first, BEGIN) {
         return false;
     }
-    for row in lines_of(job).lines() {
+    for row in LINES.lines() {
         if is_noted(row) {
             let Some(entry) = rest.next() else {
                 return true;

@@ -10,7 +10,7 @@ http_access allow e
 pub static BEGIN: &str = "0 begin 0 => epoch 1";
 
 /// A job that makes each call. What is neither refused nor none is the text of the entry that is noted.
-static WHOLE: &str = "0 open 1 10.0.0.1 4000 => ok
+pub static LINES: &str = "0 open 1 10.0.0.1 4000 => ok
 0 open 2 10.0.0.2 4000 => ok
 0 open 1 10.0.0.1 4000 => refused
 0 ask 1 GET http://a.example/ => check 1
@@ -72,36 +72,3 @@ static WHOLE: &str = "0 open 1 10.0.0.1 4000 => ok
 7 close 2 => ok
 7 act => none
 ";
-
-/// A process lives and connections are open; then no place can be made any more.
-static SPARE: &str = "0 open 1 10.0.0.1 4000 => ok
-0 open 2 10.0.0.2 4000 => ok
-0 ask 1 GET http://a.example/ => check 1
-0 step 1 => waits 1
-0 act => start 1 v
-0 started 1 v => proc 1
-0 act => send 1 1 - a.example%20-
-0 ask 2 GET http://b.example/ => wanting
-0 died 1 => ok
-0 close 1 => ok
-0 close 2 => ok
-";
-
-/// How many places are made in the second job before none can be made any more: at the beginning, and in each call before
-/// the second `ask`.
-pub const MADE: u64 = 8;
-
-/// A job, by its name.
-#[derive(Clone, Copy)]
-pub enum Job {
-    Whole,
-    Spare,
-}
-
-/// The lines of a job.
-pub fn lines_of(job: Job) -> &'static str {
-    match job {
-        Job::Whole => WHOLE,
-        Job::Spare => SPARE,
-    }
-}

@@ -1,8 +1,11 @@
-//! Tests of the desk: one job that makes each of its calls, over journals in memory of which each call fails in turn; and each
-//! call of a desk, of delay pools and of a rewriter behind their locks, beside the same call of an equal one.
+//! Tests of the desk: one job that makes each of its calls, over journals in memory of which each note fails in turn; each
+//! call of a desk, of delay pools and of a rewriter behind their locks; whose turn it is at a bucket, and who waits how long.
+//! Sessions over a machine and links in memory where something fails (`hub`), and replies of the proxy's own that the program
+//! does not come to (`own_replies`). Heads, bodies, exchanges and tunnels that do not fail are shown over the program, by
+//! `tests/corpus`.
 //!
-//! It has no public call. The answers expected come from the definitions of the machine's answers, of its next act and of
-//! the farms, followed by hand; which calls make places and which note entries, from what is promised of the desk.
+//! It has no public call. The answers expected come from the definitions of the machine's answers, of its next act, of the farms
+//! and of the buckets, followed by hand.
 #![tactic(auto)]
 
 #[cfg(test)]
@@ -12,16 +15,18 @@ mod desks;
 #[cfg(test)]
 mod faults;
 #[cfg(test)]
+mod hub;
+#[cfg(test)]
 mod jobs;
 #[cfg(test)]
 mod locked;
 #[cfg(test)]
 mod locks;
 #[cfg(test)]
+mod own_replies;
+#[cfg(test)]
 mod rewriting;
 #[cfg(test)]
 mod seats;
-#[cfg(test)]
-mod turns;
 #[cfg(test)]
 mod waits;

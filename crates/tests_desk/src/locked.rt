@@ -1,13 +1,16 @@
-//! Each call of a desk, made once behind its lock and once of an equal desk.
+//! Each call of a desk, made behind its lock; and what runs the calls of delay pools and of a rewriter behind theirs, beside it.
 ghost use Rattle.std.specs.Prelude.{◌≡◌, ◌<◌, pos, true};
 ghost use Rattle.std.specs.Option.{ForSome};
 ghost use Rattle.sq_calls.specs.Legality.{IsStated};
 ghost use Rattle.sq_shared.specs.Books.{AreCounted};
 
 use crate::calls::setup_of;
-use crate::desks::{append, gave_mark, helper_mark, hub_mark, is_noted, mark};
+use crate::desks::{append, gave_mark, helper_mark, hub_mark, is_noted};
 use crate::jobs::BEGIN;
 use crate::locks::{Blanks, CALLERS, Wholes, lock, pools_of};
+use crate::rewriting::{JUDGED, QUESTIONS, rewriter_of, run_questions};
+use crate::seats::{SEATS, put_moments, run_seats};
+use crate::waits::{WAITS, run_waits};
 use sq_base::{EpochNo, Moment};
 use sq_cache::HashSeed;
 use sq_calls::{ControlCalls, DeskCalls, DeskFault, HelperCalls, TellsJournal};
@@ -18,14 +21,20 @@ use sq_journal_writers::MemJournal;
 use sq_machine::{Entry, Event, Offset, Told};
 use sq_outside_mem::MemClock;
 use sq_pools::{Pools, TagPools};
-use sq_shared::{Asks, Bank, ControlDesk, Grants, Ledgers, LockDesk, Makes, Refusals, Room};
+use sq_rewrite::Rewriter;
+use sq_rewrite_pump::LockRewriter;
+use sq_rules::Config;
+use sq_shared::{
+    Asks, Bank, ControlDesk, Grants, Ledgers, LockDesk, Makes, Refusals, RewriterHall,
+    RewriterRoom, Room,
+};
 use sq_urlmatch::Setup;
 use sq_workers::LockHub;
 use std::alloc::Global;
 use std::marker::Brand;
 use std::process::Abort;
 use std::sync::ledger::Share;
-use std::sync::{Mutex, Wait};
+use std::sync::{Arc, Mutex, Wait};
 
 /// Two classes with two processes each, of which `v` is asked at port 80 and `w` at port 81. At port 82 all is denied.
 static CONF: &str = "external_acl_type v children-max=2 %>rd /bin/h
@@ -37,6 +46,24 @@ acl q port 82
 http_access deny q
 http_access allow !p a
 http_access allow b
+";
+
+/// What lies beside the desk: delay pools with buckets by addresses, two with buckets by tags, all of which begin empty; and a program
+/// of which two processes may run, while one question may wait.
+static BESIDE: &str = "delay_pools 5
+delay_class 1 1
+delay_class 2 1
+delay_class 3 5
+delay_class 4 5
+delay_class 5 2
+delay_parameters 1 100/1000
+delay_parameters 2 10/1000
+delay_parameters 3 100/1000
+delay_parameters 4 10/1000
+delay_parameters 5 150/150 100/100
+delay_initial_bucket_level 0
+url_rewrite_program /bin/r
+url_rewrite_children 2 queue-size=1
 ";
 
 /// What is done before another configuration is current: a check, a question and a process of each class. Each line has its
@@ -82,36 +109,49 @@ h 5 open 8 10.0.0.8 4008 => ok
 h 5 open 9 10.0.0.9 4009 => ok
 ";
 
-/// The calls, each of which is made once in the state that is left then. Where it names one of what is there, there are two of
-/// that kind or more, and it is not the first. `c` is the control, and `r` reads: the words of a class, or a configuration's
-/// port.
-static CASES: &str = "d 9 started 2 w => proc 3
+/// The calls, of which each is made once at least. Where it names one of what is there, there are two of that kind or more, and it is
+/// not the first. `r` reads: the words of a class, or a configuration's port. A call that is refused must not be told as one
+/// that wants memory, by which it would be tried for good.
+static DESK: &str = "r words /bin/g2
+r port 3129
+d 8 act => start 2 v
+h 8 open 10 10.0.0.10 4010 => ok
+h 8 close 8 => ok
+h 8 ask 9 GET http://h.example:81/ => check 8
+h 8 step 8 => waits 6
+h 8 take 6 => epoch 2 denied rule 1
+d 8 act => start 2 w
+d 9 started 2 w => proc 3
 d 9 startfail 2 w => ok
 d 9 line 2 OK => reply 2 ok
 d 9 line 9 OK => refused
 d 9 died 2 => ok
 d 9 died 9 => refused
-d 9 act => start 2 v
-r words /bin/g2
-r port 3129
-c 9 reconfigure http_access%20deny%20all%0A => epoch 3
-h 8 open 10 10.0.0.10 4010 => ok
-h 8 close 9 => ok
-h 8 ask 9 GET http://h.example/ => check 8
-h 8 step 4 => waits 4
-h 8 take 6 => epoch 2 denied rule 1
 ";
+
+/// Whose calls are made once all this was done, or who waits then.
+#[derive(Clone, Copy)]
+pub enum Table {
+    Desk,
+    Pools,
+    Rewriter,
+    Waits,
+}
 
 /// For how many entries a journal has room.
 const ROOM: usize = 100;
 
-// The moments of a connection's clock: it is called 23 times at 5, and then at 8.
-fn clock(rt: &impl Abort, alloc: Global) -> MemClock {
+// The moments of a connection's clock: it is called 23 times at 5, and then at those of the table.
+fn clock(rt: &impl Abort, alloc: Global, table: Table) -> MemClock {
     let mut rest = Vec::new(alloc);
     for _ in 1..23 {
         rest.push(Moment(5)).expect(rt, "memory");
     }
-    rest.push(Moment(8)).expect(rt, "memory");
+    match table {
+        Table::Desk => rest.push(Moment(8)).expect(rt, "memory"),
+        Table::Pools => put_moments(rt, &mut rest),
+        Table::Rewriter | Table::Waits => {}
+    }
     MemClock::new(alloc, Moment(5), rest)
 }
 
@@ -167,10 +207,10 @@ fn run_rows<D: HelperCalls, H: Hub>(
     desk: &mut D,
     hub: &mut H,
     rows: &str,
-    marks: &mut String,
+    text: &mut String,
 ) {
     for row in rows.lines() {
-        append(rt, marks, row_mark(rt, alloc, desk, hub, row));
+        append(rt, text, row_mark(rt, alloc, desk, hub, row));
     }
 }
 
@@ -192,10 +232,15 @@ fn reread_of(rt: &impl Abort, alloc: Global, row: &str) -> (Moment, Setup, Told)
 }
 
 // The mark of a reconfiguration.
-fn epoch_mark(gave: Result<EpochNo, DeskFault>, wanted: &Told) -> &'static str {
+fn epoch_mark(
+    rt: &impl Abort,
+    alloc: Global,
+    gave: Result<EpochNo, DeskFault>,
+    wanted: &Told,
+) -> &'static str {
     match gave {
-        Ok(epoch) => gave_mark(&Ok(Some(Told::Epoch(epoch))), wanted),
-        Err(fault) => gave_mark(&Err(fault), wanted),
+        Ok(epoch) => gave_mark(rt, alloc, &Ok(Some(Told::Epoch(epoch))), wanted),
+        Err(fault) => gave_mark(rt, alloc, &Err(fault), wanted),
     }
 }
 
@@ -208,7 +253,7 @@ fn reread<R: Wait + Abort, D: DeskCalls, B: Ledgers>(
     made: Share<Makes<B>>,
     refused: Share<Refusals<B>>,
     row: &str,
-    marks: &mut String,
+    text: &mut String,
 ) -> Share<Makes<B>>
     requires counting { D.is_counting ≡ true }
     requires made { (made.parts ≡ B.makes.parts) × (0 < made.parts) }
@@ -218,7 +263,7 @@ fn reread<R: Wait + Abort, D: DeskCalls, B: Ledgers>(
     let (now, setup, wanted) = reread_of(rt, alloc, row);
     let mut control = ControlDesk::new(rt, room, made, refused);
     let gave = control.reconfigure(alloc, setup, now);
-    append(rt, marks, epoch_mark(gave, &wanted));
+    append(rt, text, epoch_mark(rt, alloc, gave, &wanted));
     control.finish()
 }
 
@@ -228,16 +273,18 @@ struct Back<B: Ledgers> {
     made: Share<Makes<B>>,
 }
 
-// Makes all calls and then the one of the case, and puts down their marks.
-fn run_case<'x, R: Wait + Abort, D: DeskCalls, B: Ledgers>(
+// Makes all calls and then those of the table, and puts down what came of them.
+fn run_table<'x, R: Wait + Abort, D: DeskCalls, B: Ledgers>(
     rt: &'x R,
     alloc: Global,
+    config: &Arc<Config>,
+    rewriter: &'x RewriterRoom,
     room: &'x Room<D, B>,
     bank: &'x Mutex<Bank<Grants<B>>>,
     clock: MemClock,
     wholes: Wholes<B>,
-    case: &str,
-    marks: &mut String,
+    table: Table,
+    text: &mut String,
 ) -> Back<B>
     requires counting { D.is_counting ≡ true }
     requires asked { (wholes.asked.parts ≡ 1) × (wholes.asked.amount ≡ 0) × (B.asks.parts ≡ 1) }
@@ -254,17 +301,28 @@ fn run_case<'x, R: Wait + Abort, D: DeskCalls, B: Ledgers>(
     } = wholes;
     let mut desk = LockDesk::new(rt, room, refused.split_off(1, 0));
     let one = refused.split_off(1, 0);
-    let two = refused.split_off(1, 0);
-    let mut hub = LockHub::new(rt, room, bank, None, clock, asked, refused, granted);
-    run_rows(rt, alloc, &mut desk, &mut hub, FIRST, marks);
-    let made = reread(rt, alloc, room, made, one, AGAIN, marks);
-    run_rows(rt, alloc, &mut desk, &mut hub, SECOND, marks);
-    let made = if case.starts_with("c ") {
-        reread(rt, alloc, room, made, two, case, marks)
-    } else {
-        run_rows(rt, alloc, &mut desk, &mut hub, case, marks);
-        made
-    };
+    let mut hub = LockHub::new(
+        rt,
+        room,
+        bank,
+        Some(rewriter),
+        clock,
+        asked,
+        refused,
+        granted,
+    );
+    run_rows(rt, alloc, &mut desk, &mut hub, FIRST, text);
+    let made = reread(rt, alloc, room, made, one, AGAIN, text);
+    run_rows(rt, alloc, &mut desk, &mut hub, SECOND, text);
+    match table {
+        Table::Desk => run_rows(rt, alloc, &mut desk, &mut hub, DESK, text),
+        Table::Pools => run_seats(rt, alloc, config, bank, &mut hub, text),
+        Table::Rewriter => {
+            let mut calls = LockRewriter::new(rt, rewriter);
+            run_questions(rt, alloc, &mut hub, &mut calls, text)
+        }
+        Table::Waits => run_waits(rt, alloc, room, &mut desk, &mut hub, text),
+    }
     let asked = hub.finish().asked;
     Back { asked, made }
 }
@@ -273,12 +331,14 @@ fn run_case<'x, R: Wait + Abort, D: DeskCalls, B: Ledgers>(
 fn run_locked<R: Wait + Abort, D: DeskCalls, B: Ledgers>(
     rt: &R,
     alloc: Global,
+    config: &Arc<Config>,
+    rewriter: Rewriter,
     desk: D,
     pools: (Pools, TagPools),
     clock: MemClock,
     blanks: Blanks,
-    case: &str,
-    marks: &mut String,
+    table: Table,
+    text: &mut String,
 ) -> D
     requires counting { D.is_counting ≡ true }
     requires asks { (blanks.asks.name ≡ B.asks.name) × (blanks.asks.parts ≡ B.asks.parts)
@@ -296,33 +356,22 @@ fn run_locked<R: Wait + Abort, D: DeskCalls, B: Ledgers>(
     requires granted { (pools.0.granted ≡ 0) × (pools.1.granted ≡ 0) }
 {
     let (room, bank, wholes) = lock::<D, B>(alloc, desk, pools, blanks);
-    let Back { asked, made } = run_case(rt, alloc, &room, &bank, clock, wholes, case, marks);
+    let beside = RewriterRoom::new(RewriterHall::new(rewriter));
+    let Back { asked, made } = run_table(
+        rt, alloc, config, &beside, &room, &bank, clock, wholes, table, text,
+    );
     room.into_hall().end(asked, made)
 }
 
-/// A desk of this configuration that has begun.
-pub fn begin<R: Abort, F: DeskStart>(rt: &R, alloc: Global, setup: Setup) -> Desk<MemJournal, F>
-    requires { F.first ≡ record { config = setup; offset = pos 0 } }
-    ensures { AreCounted 0 0 result.notes.history
-        × (result.notes.made ≡ 0)
-        × (result.notes.refusals ≡ 0) }
-{
-    begin_failing::<R, F>(rt, alloc, setup, Vec::new(alloc))
-}
-
-/// The same, where these notes of its journal fail.
+// A desk of this configuration that has begun.
 #[tactic(auto, using(crate::proofs::BeginLaws::first_counted))]
-pub fn begin_failing<R: Abort, F: DeskStart>(
-    rt: &R,
-    alloc: Global,
-    setup: Setup,
-    fails: Vec<u64>,
-) -> Desk<MemJournal, F>
+fn begin<R: Abort, F: DeskStart>(rt: &R, alloc: Global, setup: Setup) -> Desk<MemJournal, F>
     requires { F.first ≡ record { config = setup; offset = pos 0 } }
     ensures { AreCounted 0 0 result.notes.history
         × (result.notes.made ≡ 0)
         × (result.notes.refusals ≡ 0) }
 {
+    let fails = Vec::new(alloc);
     let journal = MemJournal::new(alloc, ROOM, fails, Vec::new(alloc)).expect(rt, "memory");
     let seed = HashSeed::fixed();
     match Desk::<MemJournal, F>::new(alloc, setup, Offset(0), journal, Moment(0), seed) {
@@ -331,28 +380,26 @@ pub fn begin_failing<R: Abort, F: DeskStart>(
     }
 }
 
-// What is told of a run: the marks of its calls, and the lines of its journal.
-fn told(rt: &impl Abort, alloc: Global, marks: &str, journal: &MemJournal) -> String {
-    let mut text = String::new(alloc);
-    append(rt, &mut text, marks);
-    append(rt, &mut text, "\n");
+// Puts the lines of a journal behind what is told.
+fn put_journal(rt: &impl Abort, alloc: Global, text: &mut String, journal: &MemJournal) {
+    append(rt, text, "\n");
     for entry in journal.entries() {
         let printed = print_entry(alloc, entry).expect(rt, "memory");
         let line = str::from_utf8(printed.as_bytes()).expect(rt, "UTF-8");
-        append(rt, &mut text, line);
-        append(rt, &mut text, "\n");
+        append(rt, text, line);
+        append(rt, text, "\n");
     }
-    text
 }
 
 // The journal, once all calls were made behind the lock.
 fn run_behind<R: Wait + Abort, F: DeskStart, B: Ledgers>(
     rt: &R,
     alloc: Global,
+    config: &Arc<Config>,
     setup: Setup,
     blanks: Blanks,
-    case: &String,
-    marks: &mut String,
+    table: Table,
+    text: &mut String,
 ) -> MemJournal
     requires first { F.first ≡ record { config = setup; offset = pos 0 } }
     requires asks { (blanks.asks.name ≡ B.asks.name) × (blanks.asks.parts ≡ B.asks.parts)
@@ -365,84 +412,35 @@ fn run_behind<R: Wait + Abort, F: DeskStart, B: Ledgers>(
     requires grants { (blanks.grants.name ≡ B.grants.name) × (blanks.grants.parts ≡ B.grants.parts)
         × (B.grants.parts ≡ 1) }
 {
-    let clock = clock(rt, alloc);
-    let pools = pools_of(rt, alloc, setup.config());
+    let clock = clock(rt, alloc, table);
+    let rewriter = rewriter_of(rt, alloc, config);
+    let pools = pools_of(rt, alloc, config);
     let desk = begin::<R, F>(rt, alloc, setup);
     let desk = run_locked::<R, Desk<MemJournal, F>, B>(
-        rt,
-        alloc,
-        desk,
-        pools,
-        clock,
-        blanks,
-        case.as_str(),
-        marks,
+        rt, alloc, config, rewriter, desk, pools, clock, blanks, table, text,
     );
     desk.finish()
 }
 
-// What is told of the calls behind the lock.
-fn told_locked<R: Wait + Abort>(rt: &R, alloc: Global, case: &String) -> String {
-    let mut marks = String::new(alloc);
+// What is told of the calls behind the locks: their marks, what those of the table answer, and the journal.
+fn told_locked<R: Wait + Abort>(rt: &R, alloc: Global, table: Table) -> String {
+    let mut told = String::new(alloc);
     let setup = setup_of(rt, alloc, CONF.as_bytes());
-    let journal = run_behind::<R, Brand, Brand>(rt, alloc, setup, Blanks::new(), case, &mut marks);
-    told(rt, alloc, marks.as_str(), &journal)
+    let beside = setup_of(rt, alloc, BESIDE.as_bytes());
+    let journal = run_behind::<R, Brand, Brand>(
+        rt,
+        alloc,
+        beside.config(),
+        setup,
+        Blanks::new(),
+        table,
+        &mut told,
+    );
+    put_journal(rt, alloc, &mut told, &journal);
+    told
 }
 
-// The mark of a line, whoever makes its call behind a lock.
-fn plain_mark<D: DeskCalls>(
-    rt: &impl Abort,
-    alloc: Global,
-    desk: &mut D,
-    row: &str,
-) -> &'static str {
-    match row.split_at_checked(2) {
-        Some(("r ", line)) => read_mark(rt, alloc, desk, line),
-        Some((_, line)) => mark(rt, alloc, desk, line),
-        None => "?",
-    }
-}
-
-// Makes the calls of all lines and of the case, and puts down their marks.
-fn run_desk<D: DeskCalls>(
-    rt: &impl Abort,
-    alloc: Global,
-    desk: &mut D,
-    case: &str,
-    marks: &mut String,
-) {
-    for rows in [FIRST, AGAIN, SECOND, case] {
-        for row in rows.lines() {
-            append(rt, marks, plain_mark(rt, alloc, desk, row));
-        }
-    }
-}
-
-// The journal, once the same calls were made of the desk itself.
-fn run_plain<R: Abort, F: DeskStart>(
-    rt: &R,
-    alloc: Global,
-    setup: Setup,
-    case: &String,
-    marks: &mut String,
-) -> MemJournal
-    requires { F.first ≡ record { config = setup; offset = pos 0 } }
-{
-    let mut desk = begin::<R, F>(rt, alloc, setup);
-    run_desk(rt, alloc, &mut desk, case.as_str(), marks);
-    desk.finish()
-}
-
-// What is told of the same calls of the desk itself.
-fn told_plain<R: Abort>(rt: &R, alloc: Global, case: &String) -> String {
-    let mut marks = String::new(alloc);
-    let setup = setup_of(rt, alloc, CONF.as_bytes());
-    let journal = run_plain::<R, Brand>(rt, alloc, setup, case, &mut marks);
-    told(rt, alloc, marks.as_str(), &journal)
-}
-
-// The mark that the call of a line has to have: a refused one must not be told as one that wants memory, by which it would be
-// tried for good.
+// The mark that the call of a line has to have.
 fn wanted_mark(row: &str) -> char {
     if row.ends_with(" => refused") {
         'R'
@@ -453,14 +451,21 @@ fn wanted_mark(row: &str) -> char {
 
 // Whether the call of a line adds an entry.
 fn adds(row: &str) -> bool {
-    is_noted(row) && !row.starts_with("r ")
+    is_noted(row) && row.contains(" => ")
 }
 
 // What has to be told: each call was made, and each that adds an entry has the line's.
-fn wanted(rt: &impl Abort, alloc: Global, case: &str) -> String {
+fn wanted(rt: &impl Abort, alloc: Global, table: Table) -> String {
+    let (rows, answers, judged) = match table {
+        Table::Desk => (DESK, "", ""),
+        Table::Pools => ("", SEATS, ""),
+        Table::Rewriter => ("", QUESTIONS, JUDGED),
+        Table::Waits => (WAITS, "", ""),
+    };
     let mut marks = String::new(alloc);
-    let mut lines = text_of(rt, alloc, BEGIN);
-    for rows in [FIRST, AGAIN, SECOND, case] {
+    let mut lines = String::new(alloc);
+    append(rt, &mut lines, BEGIN);
+    for rows in [FIRST, AGAIN, SECOND, rows] {
         for row in rows.lines() {
             marks.push(wanted_mark(row)).expect(rt, "memory");
             if let (true, Some((_, line))) = (adds(row), row.split_at_checked(2)) {
@@ -469,29 +474,17 @@ fn wanted(rt: &impl Abort, alloc: Global, case: &str) -> String {
             }
         }
     }
-    format!(in alloc; "{marks}\n{lines}\n").expect(rt, "memory")
+    format!(in alloc; "{marks}{answers}\n{lines}\n{judged}").expect(rt, "memory")
 }
 
-/// A text of its own. A function that picks its ghost members takes no `&str`.
-pub fn text_of(rt: &impl Abort, alloc: Global, line: &str) -> String {
-    let mut text = String::new(alloc);
-    append(rt, &mut text, line);
-    text
-}
-
-// Ends the process unless what has to be told is told of the calls behind the lock, and of the desk itself.
-fn check<R: Wait + Abort>(rt: &R, alloc: Global, case: &str) {
-    let wanted = wanted(rt, alloc, case);
-    let text = text_of(rt, alloc, case);
-    let locked = told_locked(rt, alloc, &text);
-    assert!(rt; locked.as_str() == wanted.as_str(), "{case}: {locked}");
-    let plain = told_plain(rt, alloc, &text);
-    assert!(rt; plain.as_str() == wanted.as_str(), "{case}: {plain}");
+/// Ends the process unless what has to be told is told of the calls behind the locks.
+pub fn check<R: Wait + Abort>(rt: &R, alloc: Global, table: Table) {
+    let wanted = wanted(rt, alloc, table);
+    let told = told_locked(rt, alloc, table);
+    assert!(rt; told.as_str() == wanted.as_str(), "{told}");
 }
 
 #[test]
 fn each_call_behind_the_lock_is_that_of_the_desk(rt: HostRuntime) {
-    for case in CASES.lines() {
-        check(&rt, rt.alloc(), case);
-    }
+    check(&rt, rt.alloc(), Table::Desk);
 }

@@ -13,8 +13,8 @@ use std::process::Abort;
 use std::sync::ledger::{Blank, Book, Ledger, Share};
 use std::sync::{Arc, Mutex};
 
-/// How many take a share of the refusals: who calls the desk, the control before and behind the last call, and a connection.
-pub const CALLERS: u64 = 4;
+/// How many take a share of the refusals: who calls the desk, the control, and a connection.
+pub const CALLERS: u64 = 3;
 
 /// A blank for each book.
 #[derive(Drop)]
@@ -77,9 +77,9 @@ pub fn pools_of(rt: &impl Abort, alloc: Global, config: &Arc<Config>) -> (Pools,
     (pools, tags)
 }
 
-/// Puts pools that granted nothing yet behind their lock.
+// Puts pools that granted nothing yet behind their lock.
 #[tactic(auto, using(crate::proofs::BeginLaws::granted_none))]
-pub fn bank_of<G: Ledger>(pools: (Pools, TagPools), grants: Book<G>) -> Mutex<Bank<G>>
+fn bank_of<G: Ledger>(pools: (Pools, TagPools), grants: Book<G>) -> Mutex<Bank<G>>
     requires { (grants.total ≡ 0) × (pools.0.granted ≡ 0) × (pools.1.granted ≡ 0) }
 {
     let (pools, tags) = pools;

@@ -1,69 +1,97 @@
-//! Each call of delay pools, made once behind their lock and once of equal pools.
-ghost use Rattle.std.specs.Prelude.{◌≡◌, pos};
-ghost use Rattle.std.specs.Option.{ForSome};
+//! Each call of delay pools, made behind their lock.
+ghost use Rattle.std.specs.Prelude.{◌≡◌};
 ghost use Rattle.sq_pools.specs.Basins.{has_pool, has_tag_pool};
-ghost use Rattle.sq_shared.specs.Books.{AreCounted};
 
-use crate::calls::setup_of;
 use crate::desks::append;
-use crate::locked::{begin, text_of};
-use crate::locks::{Blanks, CALLERS, Wholes, lock, pools_of};
-use sq_base::{Addr, EpochNo, Moment, Text};
-use sq_calls::DeskCalls;
+use crate::locked::{Table, check};
+use crate::rewriting::number;
+use sq_base::{Addr, EpochNo, Moment, Text, number_of};
 use sq_conn_policy::Hub;
-use sq_desk::{Desk, DeskStart};
-use sq_journal_writers::MemJournal;
-use sq_outside::Clock;
-use sq_outside_mem::MemClock;
-use sq_pools::{Pools, Seat, TagPools, TagSeat};
+use sq_pools::{Seat, TagSeat};
 use sq_rules::Config;
-use sq_shared::{Bank, Grants, Ledgers, Room};
-use sq_urlmatch::Setup;
-use sq_workers::LockHub;
+use sq_shared::{Bank, renew, renew_tags};
 use std::alloc::Global;
-use std::marker::Brand;
 use std::process::Abort;
-use std::sync::ledger::Share;
+use std::sync::ledger::Ledger;
 use std::sync::{Arc, Mutex, Wait};
 
-/// Two delay pools with buckets by addresses, which begin empty, and two with buckets by tags, which do so, too: 100 bytes come to
-/// a bucket of the first of both in a second, and 10 to one of the second.
-static CONF: &str = "delay_pools 4
-delay_class 1 1
-delay_class 2 1
-delay_class 3 5
-delay_class 4 5
-delay_parameters 1 100/1000
-delay_parameters 2 10/1000
-delay_parameters 3 100/1000
-delay_parameters 4 10/1000
-delay_initial_bucket_level 0
-";
-
-/// A call that is made at 9 s, where a seat was given in the first pool at 2 s, of epoch 1, which began at 0 s, and one in the
-/// second at 3 s, of epoch 2, which began then. Behind it stand what it answers, and the levels of the buckets of three seats:
-/// `-` is none. A seat is chosen in the second pool of epoch 2; 500 bytes are wanted on the second seat; that is given up, at no
-/// moment; and 500 bytes are wanted three times, with a rest before the third, behind which the clock is at 10.001 s: the rest ends
-/// where the clock is at 10 s, and the bucket gains. Behind `tag` the pools are those with buckets by tags: there the first two seats
-/// have the tag `gold`, and the one that is chosen then has `iron`; a tag's bucket gains from its first seat on.
-static CASES: &str = "choose => 3 900 60 60
-grant => 60 900 0 -
-leave => - 300 - -
-rest => 10 1000 0 -
-tag choose => 3 700 60 0
-tag grant => 60 700 0 -
-tag leave => - 100 - -
-tag rest => 10 800 0 -
+/// The moments at which a clock is looked at, the calls, and what they answer: the number of a seat, or how many of 500 bytes it is
+/// granted. A seat is chosen in a pool of an epoch, for the client or another one, or for a tag where the pool has buckets by tags;
+/// bytes are granted on the so-manieth of those that are held, and the last of them is given up. A rest ends where the buckets gain of
+/// the seat that was granted nothing last.
+///
+/// The first epoch began at 0 s, the second at 3.3 s. The pools at 0 and 2 gain 100 bytes in each second of their epoch, and those at 1
+/// and 3 gain 10, where a tag's bucket does so from its first seat on. That at 4 holds 150 bytes for all, and 100 for each client.
+/// Who was granted nothing waits. From the next second on others get even parts with it, three seats of one bucket 4, 3 and 3 of 10;
+/// unless it waits at a bucket of its own, as the second seat of the client does at 9.17 s: then the other client gets its 100 at
+/// 10.1 s. Who gives its seat up waits no more.
+pub static SEATS: &str = "2000 choose 1 0 - => 1
+2100 choose 1 2 iron => 1
+2200 choose 1 4 - => 2
+2300 choose 1 4 - => 3
+2400 choose 1 4 other => 4
+- renew => -
+9000 choose 2 1 - => 5
+9100 grant 1 => 500
+9150 grant 2 => 500
+9160 grant 3 => 100
+9170 grant 4 => 0
+9180 grant 5 => 50
+9200 grant 6 => 50
+9290 grant 6 => 0
+9295,9299,9300 pause => -
+9301 grant 6 => 10
+9302 choose 2 1 - => 6
+9303 choose 2 1 - => 7
+9304 grant 7 => 0
+9305 grant 8 => 0
+10100 grant 5 => 100
+10301 grant 6 => 4
+10302 grant 7 => 3
+10303 grant 8 => 3
+10304 grant 7 => 0
+10305 grant 8 => 0
+- leave => -
+11301 grant 6 => 5
+11302 grant 7 => 5
+11400 choose 2 3 gold => 2
+12000 grant 8 => 0
+12200,12299,12300 pause => -
+12301 grant 8 => 10
+12302 choose 2 3 gold => 3
+12303 grant 9 => 0
+13301 grant 8 => 5
+- leave => -
+14301 grant 8 => 15
 ";
 
 /// A client.
-pub const CLIENT: Addr = Addr {
+const CLIENT: Addr = Addr {
     v6: false,
     number: 0x0a00_0001,
 };
 
-/// Whether the configuration has this pool, it takes the client, and has buckets by addresses.
-pub fn takes(config: &Config, pool: u32, addr: Addr) -> bool
+/// Another client.
+const OTHER: Addr = Addr {
+    v6: false,
+    number: 0x0a00_0002,
+};
+
+/// Puts the moments of the calls behind others.
+pub fn put_moments(rt: &impl Abort, moments: &mut Vec<Moment>) {
+    for row in SEATS.lines() {
+        let (words, _) = row.split_once(' ').expect(rt, "a call");
+        for word in words.split(',') {
+            if word != "-" {
+                let now = number_of(word.as_bytes(), 100_000).expect(rt, "a moment");
+                moments.push(Moment(now)).expect(rt, "memory");
+            }
+        }
+    }
+}
+
+// Whether the configuration has this pool, it takes the client, and has buckets by addresses.
+fn takes(config: &Config, pool: u32, addr: Addr) -> bool
     ensures { result ≡ has_pool config.now pool addr }
 {
     match config.pools().get(pool as usize) {
@@ -72,8 +100,8 @@ pub fn takes(config: &Config, pool: u32, addr: Addr) -> bool
     }
 }
 
-/// Whether the configuration has this pool, and it has buckets by tags.
-pub fn is_tagged(config: &Config, pool: u32) -> bool
+// Whether the configuration has this pool, and it has buckets by tags.
+fn is_tagged(config: &Config, pool: u32) -> bool
     ensures { result ≡ has_tag_pool config.now pool }
 {
     match config.pools().get(pool as usize) {
@@ -98,364 +126,116 @@ impl Place {
     }
 }
 
-/// The calls of delay pools, each at the next moment of a clock where it has one.
-trait Giving {
-    /// A seat of the client, or of the tag.
-    fn give_seat<R: Abort>(
-        &mut self,
-        rt: &R,
-        alloc: Global,
-        epoch: EpochNo,
-        config: &Arc<Config>,
-        pool: u32,
-        tag: &Text,
-    ) -> Place;
-
-    fn give_bytes(&mut self, place: &Place, wanted: u64) -> u64;
-
-    fn take_seat(&mut self, place: Place);
-
-    fn rest(&mut self);
-}
-
-/// Pools of both kinds, and a clock.
-#[derive(Drop)]
-struct Timed {
-    pools: Pools,
-    tags: TagPools,
-    clock: MemClock,
-}
-
-impl Giving for Timed {
-    fn give_seat<R: Abort>(
-        &mut self,
-        rt: &R,
-        alloc: Global,
-        epoch: EpochNo,
-        config: &Arc<Config>,
-        pool: u32,
-        tag: &Text,
-    ) -> Place {
-        let now = self.clock.now();
-        if is_tagged(config, pool) {
-            let seat = self.tags.choose(alloc, epoch, config, pool, tag, now);
-            return Place::Tagged(seat.expect(rt, "a seat"));
-        }
-        assert!(rt; takes(config, pool, CLIENT), "no such pool");
-        let seat = self.pools.choose(alloc, epoch, config, pool, CLIENT, now);
-        Place::Host(seat.expect(rt, "a seat"))
-    }
-
-    fn give_bytes(&mut self, place: &Place, wanted: u64) -> u64 {
-        let now = self.clock.now();
-        match place {
-            Place::Host(seat) => self.pools.grant(seat, wanted, now),
-            Place::Tagged(seat) => self.tags.grant(seat, wanted, now),
-        }
-    }
-
-    fn take_seat(&mut self, place: Place) {
-        match place {
-            Place::Host(seat) => self.pools.leave(seat),
-            Place::Tagged(seat) => self.tags.leave(seat),
-        }
-    }
-
-    // Three looks at the clock.
-    fn rest(&mut self) {
-        for _ in 0..3 {
-            let _ = self.clock.now();
-        }
-    }
-}
-
-/// A hub, and what lies behind it.
-#[derive(Drop)]
-struct Behind<H> {
-    hub: H,
-}
-
-impl<H: Hub> Giving for Behind<H> {
-    fn give_seat<R: Abort>(
-        &mut self,
-        rt: &R,
-        alloc: Global,
-        epoch: EpochNo,
-        config: &Arc<Config>,
-        pool: u32,
-        tag: &Text,
-    ) -> Place {
-        if is_tagged(config, pool) {
-            let seat = self.hub.choose_tag(alloc, epoch, config, pool, tag);
-            return Place::Tagged(seat.expect(rt, "a seat"));
-        }
-        assert!(rt; takes(config, pool, CLIENT), "no such pool");
-        let seat = self.hub.choose(alloc, epoch, config, pool, CLIENT);
-        Place::Host(seat.expect(rt, "a seat"))
-    }
-
-    fn give_bytes(&mut self, place: &Place, wanted: u64) -> u64 {
-        match place {
-            Place::Host(seat) => self.hub.grant(seat, wanted),
-            Place::Tagged(seat) => self.hub.grant_tag(seat, wanted),
-        }
-    }
-
-    fn take_seat(&mut self, place: Place) {
-        match place {
-            Place::Host(seat) => self.hub.leave(seat),
-            Place::Tagged(seat) => self.hub.leave_tag(seat),
-        }
-    }
-
-    fn rest(&mut self) {
-        self.hub.pause();
-    }
-}
-
-/// The moments of the clock behind 2 s.
-const REST: [Moment; 8] = [
-    Moment(3000),
-    Moment(9000),
-    Moment(9000),
-    Moment(9010),
-    Moment(9999),
-    Moment(10_000),
-    Moment(10_001),
-    Moment(13_000),
-];
-
-// The clock of the calls.
-fn clock(rt: &impl Abort, alloc: Global) -> MemClock {
-    let rest = Vec::from_slice(alloc, REST.as_slice()).expect(rt, "memory");
-    MemClock::new(alloc, Moment(2000), rest)
-}
-
-// Gives a seat of the client, or of this tag.
-fn seat<P: Giving>(
+// Gives a seat of a client, or of the tag.
+fn give_seat<H: Hub>(
     rt: &impl Abort,
     alloc: Global,
-    pools: &mut P,
-    epoch: EpochNo,
     config: &Arc<Config>,
-    pool: u32,
-    tag: &[u8],
+    hub: &mut H,
+    words: &str,
 ) -> Place {
-    let tag = Text::from_slice(alloc, tag).expect(rt, "memory");
-    pools.give_seat(rt, alloc, epoch, config, pool, &tag)
+    let (epoch, words) = words.split_once(' ').expect(rt, "an epoch");
+    let (pool, tag) = words.split_once(' ').expect(rt, "a pool");
+    let epoch = EpochNo(number(rt, epoch));
+    let pool = number(rt, pool) as u32;
+    if is_tagged(config, pool) {
+        let tag = Text::from_slice(alloc, tag.as_bytes()).expect(rt, "memory");
+        let seat = hub.choose_tag(alloc, epoch, config, pool, &tag);
+        return Place::Tagged(seat.expect(rt, "a seat"));
+    }
+    let addr = if tag == "other" { OTHER } else { CLIENT };
+    assert!(rt; takes(config, pool, addr), "no such pool");
+    let seat = hub.choose(alloc, epoch, config, pool, addr);
+    Place::Host(seat.expect(rt, "a seat"))
 }
 
-// The places of the two pools of a case, and its call.
-fn pools_and_call(case: &str) -> (u32, u32, &str) {
-    match case.strip_prefix("tag ") {
-        Some(call) => (2, 3, call),
-        None => (0, 1, case),
+// Grants bytes on a seat.
+fn give_bytes<H: Hub>(hub: &mut H, place: &Place) -> u64 {
+    match place {
+        Place::Host(seat) => hub.grant(seat, 500),
+        Place::Tagged(seat) => hub.grant_tag(seat, 500),
     }
 }
 
-// Gives two seats and then makes the call of a case: what it answers.
-fn run_case<P: Giving>(
+// Gives a seat up.
+fn take_seat<H: Hub>(hub: &mut H, place: Place) {
+    match place {
+        Place::Host(seat) => hub.leave(seat),
+        Place::Tagged(seat) => hub.leave_tag(seat),
+    }
+}
+
+// Makes a call on the seats that are held: what it answers, if anything.
+fn answer<H: Hub>(
     rt: &impl Abort,
     alloc: Global,
-    pools: &mut P,
     config: &Arc<Config>,
-    case: &str,
+    hub: &mut H,
+    held: &mut Vec<Place>,
+    call: &str,
 ) -> Option<u64> {
-    let (one, two, call) = pools_and_call(case);
-    let _first = seat(rt, alloc, pools, EpochNo(1), config, one, b"gold");
-    let second = seat(rt, alloc, pools, EpochNo(2), config, two, b"gold");
-    match call {
-        "choose" => {
-            let third = seat(rt, alloc, pools, EpochNo(2), config, two, b"iron");
-            Some(third.number())
+    match call.split_once(' ') {
+        Some(("choose", words)) => {
+            let place = give_seat(rt, alloc, config, hub, words);
+            let given = place.number();
+            held.push(place).expect(rt, "memory");
+            Some(given)
         }
-        "grant" => Some(pools.give_bytes(&second, 500)),
-        "rest" => {
-            let _all = pools.give_bytes(&second, 500);
-            let _none = pools.give_bytes(&second, 500);
-            pools.rest();
-            Some(pools.give_bytes(&second, 500))
+        Some((_, place)) => {
+            let place = (number(rt, place) as usize).wrapping_sub(1);
+            Some(give_bytes(hub, held.get(place).expect(rt, "a seat")))
         }
-        _ => {
-            pools.take_seat(second);
+        None => {
+            match call {
+                "leave" => take_seat(hub, held.pop().expect(rt, "a seat")),
+                _ => hub.pause(),
+            }
             None
         }
     }
 }
 
-// Puts down a number, or that there is none.
-fn put(rt: &impl Abort, text: &mut String, number: Option<u64>) {
-    match number {
-        Some(number) => write!(text, "{number}").expect(rt, "memory"),
-        None => append(rt, text, "-"),
-    }
-}
-
-// The level of a seat's bucket.
-fn level(pools: &Pools, tags: &TagPools, place: &Place) -> Option<u64> {
-    match place {
-        Place::Host(seat) => pools.bucket(seat, 0).map(|bucket| bucket.level),
-        Place::Tagged(seat) => tags.bucket(seat, 0).map(|bucket| bucket.level),
-    }
-}
-
-// What is told of pools: the answer, and the levels of the buckets of the seats 1, 2 and 3.
-fn told(
-    rt: &impl Abort,
-    alloc: Global,
-    config: &Arc<Config>,
-    pools: &Pools,
-    tags: &TagPools,
-    case: &str,
-    answer: Option<u64>,
-) -> String {
-    let (one, two, _call) = pools_and_call(case);
-    let mut others = timed_pools(rt, alloc, config);
-    let mut text = String::new(alloc);
-    put(rt, &mut text, answer);
-    for (epoch, pool) in [(EpochNo(1), one), (EpochNo(2), two), (EpochNo(2), two)] {
-        let place = seat(rt, alloc, &mut others, epoch, config, pool, b"gold");
-        append(rt, &mut text, " ");
-        put(rt, &mut text, level(pools, tags, &place));
-    }
-    text
-}
-
-// Pools with the first epoch's buckets, and the clock of the calls.
-fn timed_pools(rt: &impl Abort, alloc: Global, config: &Arc<Config>) -> Timed {
-    let (pools, tags) = pools_of(rt, alloc, config);
-    Timed {
-        pools,
-        tags,
-        clock: clock(rt, alloc),
-    }
-}
-
-// What is told of the calls of the pools themselves.
-fn told_plain(rt: &impl Abort, alloc: Global, config: &Arc<Config>, case: &str) -> String {
-    let mut timed = timed_pools(rt, alloc, config);
-    let answer = run_case(rt, alloc, &mut timed, config, case);
-    told(rt, alloc, config, &timed.pools, &timed.tags, case, answer)
-}
-
-// What the call of a case answers behind the lock, and the share of what was granted.
-fn run_hub<'x, R: Wait + Abort, D: DeskCalls, B: Ledgers>(
-    rt: &'x R,
-    alloc: Global,
-    config: &Arc<Config>,
-    room: &'x Room<D, B>,
-    bank: &'x Mutex<Bank<Grants<B>>>,
-    clock: MemClock,
-    wholes: Wholes<B>,
-    case: &str,
-) -> (Option<u64>, Share<Grants<B>>)
-    requires asked { (wholes.asked.parts ≡ 1) × (wholes.asked.amount ≡ 0) }
-    requires refused { wholes.refused.parts ≡ CALLERS }
-    requires granted { (wholes.granted.parts ≡ 1) × (wholes.granted.amount ≡ 0) }
-    ensures { result.1.parts ≡ 1 }
-{
-    let Wholes {
-        asked,
-        mut refused,
-        granted,
-        ..
-    } = wholes;
-    let one = refused.split_off(1, 0);
-    let hub = LockHub::new(rt, room, bank, None, clock, asked, one, granted);
-    let mut behind = Behind { hub };
-    let answer = run_case(rt, alloc, &mut behind, config, case);
-    (answer, behind.hub.finish().granted)
-}
-
-// What is told of the calls of the pools behind their lock.
-fn run_locked<R: Wait + Abort, D: DeskCalls + Drop, B: Ledgers>(
+// The second epoch of the pools begins, as the control has it.
+fn begin_epoch<R: Wait + Abort, G: Ledger>(
     rt: &R,
     alloc: Global,
     config: &Arc<Config>,
-    desk: D,
-    pools: (Pools, TagPools),
-    clock: MemClock,
-    blanks: Blanks,
-    case: &str,
-) -> String
-    requires asks { (blanks.asks.name ≡ B.asks.name) × (blanks.asks.parts ≡ B.asks.parts)
-        × (B.asks.parts ≡ 1) }
-    requires makes { (blanks.makes.name ≡ B.makes.name) × (blanks.makes.parts ≡ B.makes.parts) }
-    requires refusals { (blanks.refusals.name ≡ B.refusals.name)
-        × (blanks.refusals.parts ≡ B.refusals.parts)
-        × (B.refusals.parts ≡ CALLERS) }
-    requires grants { (blanks.grants.name ≡ B.grants.name) × (blanks.grants.parts ≡ B.grants.parts)
-        × (B.grants.parts ≡ 1) }
-    requires entries { AreCounted 0 0 (D.told desk) }
-    requires made { ForSome (D.made desk) (λ m. m ≡ 0) }
-    requires refused { D.refused desk ≡ 0 }
-    requires granted { (pools.0.granted ≡ 0) × (pools.1.granted ≡ 0) }
-{
-    let (room, bank, wholes) = lock::<D, B>(alloc, desk, pools, blanks);
-    let (answer, granted) = run_hub(rt, alloc, config, &room, &bank, clock, wholes, case);
-    let (pools, tags) = bank.into_inner().end(granted);
-    told(rt, alloc, config, &pools, &tags, case, answer)
+    bank: &Mutex<Bank<G>>,
+) {
+    renew(rt, alloc, bank, EpochNo(2), config, Moment(3300)).expect(rt, "memory");
+    renew_tags(rt, alloc, bank, EpochNo(2), config, Moment(3300)).expect(rt, "memory");
 }
 
-// What is told of the calls of the pools behind their lock.
-fn run_behind<R: Wait + Abort, F: DeskStart, B: Ledgers>(
+/// Makes the calls, and puts them down, each with what it answers.
+pub fn run_seats<R: Wait + Abort, G: Ledger, H: Hub>(
     rt: &R,
     alloc: Global,
     config: &Arc<Config>,
-    setup: Setup,
-    blanks: Blanks,
-    case: &String,
-) -> String
-    requires first { F.first ≡ record { config = setup; offset = pos 0 } }
-    requires asks { (blanks.asks.name ≡ B.asks.name) × (blanks.asks.parts ≡ B.asks.parts)
-        × (B.asks.parts ≡ 1) }
-    requires makes { (blanks.makes.name ≡ B.makes.name) × (blanks.makes.parts ≡ B.makes.parts) }
-    requires refusals { (blanks.refusals.name ≡ B.refusals.name)
-        × (blanks.refusals.parts ≡ B.refusals.parts)
-        × (B.refusals.parts ≡ CALLERS) }
-    requires grants { (blanks.grants.name ≡ B.grants.name) × (blanks.grants.parts ≡ B.grants.parts)
-        × (B.grants.parts ≡ 1) }
-{
-    let clock = clock(rt, alloc);
-    let pools = pools_of(rt, alloc, config);
-    let desk = begin::<R, F>(rt, alloc, setup);
-    run_locked::<R, Desk<MemJournal, F>, B>(
-        rt,
-        alloc,
-        config,
-        desk,
-        pools,
-        clock,
-        blanks,
-        case.as_str(),
-    )
-}
-
-// What is told of the calls of the pools behind their lock.
-fn told_locked<R: Wait + Abort>(
-    rt: &R,
-    alloc: Global,
-    config: &Arc<Config>,
-    case: &String,
-) -> String {
-    let setup = setup_of(rt, alloc, CONF.as_bytes());
-    run_behind::<R, Brand, Brand>(rt, alloc, config, setup, Blanks::new(), case)
-}
-
-// Ends the process unless this is told of the calls of the pools themselves, and of those behind their lock.
-fn check<R: Wait + Abort>(rt: &R, alloc: Global, config: &Arc<Config>, case: &str, wanted: &str) {
-    let plain = told_plain(rt, alloc, config, case);
-    assert!(rt; plain.as_str() == wanted, "{case}: {plain}");
-    let text = text_of(rt, alloc, case);
-    let locked = told_locked(rt, alloc, config, &text);
-    assert!(rt; locked.as_str() == wanted, "{case}: {locked}");
+    bank: &Mutex<Bank<G>>,
+    hub: &mut H,
+    told: &mut String,
+) {
+    let mut held = Vec::new(alloc);
+    for row in SEATS.lines() {
+        let (line, _wanted) = row.split_once(" => ").expect(rt, "an answer");
+        let (_, call) = line.split_once(' ').expect(rt, "a call");
+        append(rt, told, line);
+        append(rt, told, " => ");
+        let gave = if call == "renew" {
+            begin_epoch(rt, alloc, config, bank);
+            None
+        } else {
+            answer(rt, alloc, config, hub, &mut held, call)
+        };
+        match gave {
+            Some(number) => write!(told, "{number}").expect(rt, "memory"),
+            None => append(rt, told, "-"),
+        }
+        append(rt, told, "\n");
+    }
 }
 
 #[test]
 fn each_call_behind_the_lock_is_that_of_the_pools(rt: HostRuntime) {
-    let setup = setup_of(&rt, rt.alloc(), CONF.as_bytes());
-    for row in CASES.lines() {
-        let (case, wanted) = row.split_once(" => ").expect(&rt, "an answer");
-        check(&rt, rt.alloc(), setup.config(), case, wanted);
-    }
+    check(&rt, rt.alloc(), Table::Pools);
 }

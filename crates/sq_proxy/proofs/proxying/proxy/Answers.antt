@@ -1,7 +1,7 @@
 use Rattle.std.proofs.Common.{sym, ◌∙◌, subst}
 use Rattle.std.proofs.lemmas.Option.{none-some}
 use Rattle.sq_proxy.specs.Service.{IsServiceEnd}
-use Rattle.sq_proxy.proofs.DoneLaws.{migrates_truly_told, runs_truly_told}
+use Rattle.sq_commands.proofs.DoneLaws.{migrates_truly_told, runs_truly_told}
 use Rattle.sq_proxy.proofs.proxying.proxy.Goals as goal
 
 pub returns-in-Some-clause-truly : goal.returns-in-Some-clause-truly

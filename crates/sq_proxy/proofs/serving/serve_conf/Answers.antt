@@ -1,6 +1,6 @@
 use Rattle.std.proofs.Common.{refl, ap}
 use Rattle.sq_control.specs.Attending.{Streams}
-use Rattle.sq_proxy.specs.Serving.{shown_service}
+use Rattle.sq_commands.specs.Serving.{shown_service}
 use Rattle.sq_proxy.proofs.ServiceLaws.{conf_failed, net_failed, served_from, served_service, served_texts}
 use Rattle.sq_proxy.proofs.serving.serve_conf.Goals as goal
 

@@ -1,8 +1,8 @@
 use Rattle.std.proofs.Common.{refl, ap}
 use Rattle.sq_control.specs.Attending.{Streams}
-use Rattle.sq_proxy.specs.Ends.{end_of, is_silent}
-use Rattle.sq_proxy.specs.Serving.{shown_service}
-use Rattle.sq_proxy.specs.declared.ends.Status.{Status}
+use Rattle.sq_commands.specs.Ends.{end_of, is_silent}
+use Rattle.sq_commands.specs.Serving.{shown_service}
+use Rattle.sq_commands.specs.declared.ends.Status.{Status}
 use Rattle.sq_proxy.proofs.ServiceLaws.{finished}
 use Rattle.sq_proxy.proofs.serving.serve_service.Goals as goal
 

@@ -1,8 +1,0 @@
-//! Tests of sessions over a machine in memory.
-//!
-//! The expected values come from Squid's configuration reference, directives `external_acl_type`,
-//! `http_access` and `delay_parameters`, followed by hand, from what a helper process is told to write, and from the
-//! table of what a client gets in `docs/FORMATS.md`.
-mod failing;
-mod running;
-mod turns;
