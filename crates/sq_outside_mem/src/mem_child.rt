@@ -49,10 +49,12 @@ impl<'a> MemChildOut<'a> {
 /// Waits until this many lines and one more were written to the wire, and says whether they were.
 fn is_asked(wire: &Wire, said: usize, turns: u32) -> bool {
     for _ in 0..turns {
+        // First whether it was closed: what was written before that is seen then.
+        let closed = wire.is_closed();
         if wire.lines() > said {
             return true;
         }
-        if wire.is_closed() {
+        if closed {
             return false;
         }
         thread::yield_now();
