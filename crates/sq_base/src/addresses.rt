@@ -9,7 +9,7 @@ use std::marker::Model;
 
 /// An IP address: its kind, and its bits as a number, which is below 2^32 for IPv4. All IPv4
 /// addresses stand before all IPv6 ones, and each kind is ordered by its number.
-#[derive(Clone, Copy, Debug, PartialEq, Eq, PartialOrd, Ord)]
+#[derive(Clone, Copy, PartialEq, Eq, PartialOrd, Ord)]
 pub struct Addr {
     pub v6: bool,
     pub number: u128,
@@ -31,7 +31,7 @@ impl Model for Addr {
 pub type Addrs = Listed<Addr>;
 
 /// The addresses from the first to the last, both included, over both kinds.
-#[derive(Clone, Copy, Debug, PartialEq, Eq)]
+#[derive(Clone, Copy, PartialEq, Eq)]
 pub struct Range {
     pub first: Addr,
     pub last: Addr,

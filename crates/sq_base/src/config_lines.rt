@@ -4,7 +4,7 @@ use crate::bytes::Texts;
 use crate::listed::Listed;
 
 /// The words of a line, with the number of the line's first part.
-#[derive(Drop, Debug, PartialEq, Eq)]
+#[derive(Drop, PartialEq, Eq)]
 pub struct Line {
     pub number: u32,
     pub words: Texts,
@@ -14,7 +14,7 @@ pub struct Line {
 pub type Lines = Listed<Line>;
 
 /// Why a line, which is named by the number of its first part, has no words.
-#[derive(Clone, Copy, Debug, PartialEq, Eq)]
+#[derive(Clone, Copy, PartialEq, Eq)]
 pub enum LineFault {
     /// It has more bytes than a line may have.
     LineTooLong(u32),
@@ -23,7 +23,7 @@ pub enum LineFault {
 }
 
 /// The lines before the first faulty one, and its fault.
-#[derive(Drop, Debug, PartialEq, Eq)]
+#[derive(Drop, PartialEq, Eq)]
 pub struct Lexed {
     pub lines: Lines,
     pub fault: Option<LineFault>,

@@ -9,7 +9,7 @@ use std::alloc::Global;
 use std::marker::Model;
 
 /// A pair `key=value` of a helper's reply.
-#[derive(Drop, Debug, PartialEq, Eq)]
+#[derive(Drop, PartialEq, Eq)]
 pub struct Pair {
     pub key: Text,
     pub value: Text,
@@ -35,7 +35,7 @@ pub enum Word {
 }
 
 /// A helper's reply, without its channel.
-#[derive(Drop, Debug, PartialEq, Eq)]
+#[derive(Drop, PartialEq, Eq)]
 pub struct Reply {
     pub word: Word,
     pub pairs: Pairs,
@@ -69,7 +69,7 @@ pub enum Cause {
 }
 
 /// What a check took for a class and key: OK or ERR with the reply's pairs, or a fault.
-#[derive(Drop, Debug, PartialEq, Eq)]
+#[derive(Drop, PartialEq, Eq)]
 pub enum What {
     Yes(Pairs),
     No(Pairs),
@@ -94,7 +94,7 @@ impl Copying for What {
 
 /// An answer that a check took: its class by place, its key, the question that it answers (none for
 /// a full queue or a long key), the moment of the reply, and the moment at which it was taken.
-#[derive(Drop, Debug, PartialEq, Eq)]
+#[derive(Drop, PartialEq, Eq)]
 pub struct Answer {
     pub class: u32,
     pub key: Text,
@@ -120,7 +120,7 @@ impl Copying for Answer {
 }
 
 /// Answers, of which no two have one class and key. A contract sees their list.
-#[derive(Drop, Debug)]
+#[derive(Drop)]
 pub struct Answers {
     items: Listed<Answer>,
 }

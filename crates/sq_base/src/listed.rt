@@ -9,7 +9,7 @@ use std::alloc::Global;
 use std::marker::Model;
 
 /// Values in a row. A contract sees their list.
-#[derive(Drop, Debug)]
+#[derive(Drop)]
 pub struct Listed<T> {
     items: Vec<T>,
 }

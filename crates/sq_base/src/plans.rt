@@ -2,7 +2,7 @@
 
 /// How the end of a body is found. The heads of a message decide it, and a cursor goes by it: RFC 9112
 /// section 6.3.
-#[derive(Clone, Copy, Debug, PartialEq, Eq)]
+#[derive(Clone, Copy, PartialEq, Eq)]
 pub enum BodyPlan {
     /// There is no body.
     None,

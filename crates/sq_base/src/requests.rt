@@ -7,7 +7,7 @@ use std::alloc::Global;
 use std::marker::Model;
 
 /// A header field.
-#[derive(Drop, Debug, PartialEq, Eq)]
+#[derive(Drop, PartialEq, Eq)]
 pub struct Field {
     pub name: Text,
     pub value: Text,
@@ -26,7 +26,7 @@ impl Copying for Field {
 
 /// A request. Scheme and host are in lower case; scheme and path are empty for CONNECT; the path has
 /// the query. The parts of the target are always those of its method and target.
-#[derive(Drop, Debug)]
+#[derive(Drop)]
 pub struct Request {
     pub method: Text,
     pub target: Text,

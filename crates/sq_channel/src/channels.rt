@@ -10,7 +10,7 @@ use std::collections::VecDeque;
 use std::marker::Model;
 
 /// Channels in order. A contract sees them, and for how many there is room.
-#[derive(Drop, Debug)]
+#[derive(Drop)]
 pub struct FreeChannels {
     items: VecDeque<u32>,
 }

@@ -14,7 +14,7 @@ use std::marker::Model;
 
 /// A helper process: the question that is open on each of its channels. One without channel numbers
 /// has one channel.
-#[derive(Drop, Debug)]
+#[derive(Drop)]
 pub struct Process {
     numbered: bool,
     slots: Vec<Option<QuestionNo>>,

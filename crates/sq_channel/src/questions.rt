@@ -9,14 +9,14 @@ use std::collections::VecDeque;
 use std::marker::Model;
 
 /// An open question and its channel.
-#[derive(Drop, Debug)]
+#[derive(Drop)]
 pub struct Slot {
     pub question: QuestionNo,
     pub channel: u32,
 }
 
 /// Open questions and their channels, by question. A contract sees them, and for how many there is room.
-#[derive(Drop, Debug)]
+#[derive(Drop)]
 pub struct OpenQuestions {
     items: VecDeque<Slot>,
 }

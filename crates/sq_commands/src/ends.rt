@@ -7,7 +7,7 @@ use sq_replay::RunEnd;
 use sq_rules::Kind;
 
 /// How a command ends. Each has an exit status and, but for three, a last line.
-#[derive(Drop, Debug)]
+#[derive(Drop)]
 pub enum Status {
     /// The files were read to their end, and what the command comes to was written.
     Ok,

@@ -11,7 +11,7 @@ use std::sync::Wait;
 const KEPT: usize = 12;
 
 /// What a line orders.
-#[derive(Clone, Copy, Debug, PartialEq, Eq)]
+#[derive(Clone, Copy, PartialEq, Eq)]
 pub enum Order {
     /// `reconfigure`: the configuration is read again.
     Reconfigure,

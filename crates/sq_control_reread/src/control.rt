@@ -23,7 +23,7 @@ use sq_urlmatch::Setup;
 use std::alloc::Global;
 
 /// What became of a reconfiguration.
-#[derive(Clone, Copy, Debug, PartialEq, Eq)]
+#[derive(Clone, Copy, PartialEq, Eq)]
 pub enum Reread {
     /// It was made, and this epoch has begun.
     Made(EpochNo),

@@ -3,7 +3,7 @@ use sq_base::{ProcNo, QuestionNo, Text};
 use std::marker::Model;
 
 /// A question that waits for a process, and its text.
-#[derive(Drop, Debug)]
+#[derive(Drop)]
 pub struct Waiting {
     pub question: QuestionNo,
     pub text: Text,
@@ -18,7 +18,7 @@ impl Model for Waiting {
 }
 
 /// What a farm asks for next.
-#[derive(Drop, Debug)]
+#[derive(Drop)]
 pub enum FarmAct {
     /// This question is to be written to this process.
     Send {

@@ -23,7 +23,7 @@ use std::collections::VecDeque;
 use std::marker::Model;
 
 /// The helper processes of one class and the questions to them.
-#[derive(Drop, Debug)]
+#[derive(Drop)]
 pub struct Farm {
     concurrency: u32,
     children_max: u32,

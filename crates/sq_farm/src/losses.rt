@@ -9,7 +9,7 @@ use std::collections::VecDeque;
 use std::marker::Model;
 
 /// A question that has a fault and was not handed out yet.
-#[derive(Drop, Debug)]
+#[derive(Drop)]
 pub struct Loss {
     pub question: QuestionNo,
     pub cause: Cause,
@@ -24,7 +24,7 @@ impl Model for Loss {
 }
 
 /// Lost questions, by number. A contract sees them, and for how many there is room.
-#[derive(Drop, Debug)]
+#[derive(Drop)]
 pub struct Losses {
     items: VecDeque<Loss>,
 }

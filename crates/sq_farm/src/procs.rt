@@ -11,7 +11,7 @@ use std::alloc::Global;
 use std::marker::Model;
 
 /// A living process.
-#[derive(Drop, Debug)]
+#[derive(Drop)]
 pub struct Living {
     pub number: ProcNo,
     pub process: Process,
@@ -26,7 +26,7 @@ impl Model for Living {
 }
 
 /// Living processes, by number. A contract sees their list.
-#[derive(Drop, Debug)]
+#[derive(Drop)]
 pub struct Procs {
     rows: Vec<Living>,
     // The processes with a free channel, by number. It has room for all.

@@ -13,7 +13,7 @@ const PIECE: usize = 16_384;
 const DRY_LIMIT: u32 = 3_600;
 
 /// Why bytes were not written.
-#[derive(Clone, Copy, Debug, PartialEq, Eq)]
+#[derive(Clone, Copy, PartialEq, Eq)]
 pub(crate) enum Unpaid {
     /// The sink failed.
     Failed,

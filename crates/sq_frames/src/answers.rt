@@ -5,7 +5,7 @@ ghost use Rattle.sq_frames.specs.Givens.{needed_by};
 use sq_base::Cause;
 
 /// The value of an external acl, as a helper's answer gives it: OK is a match, ERR is none.
-#[derive(Clone, Copy, Debug, PartialEq, Eq)]
+#[derive(Clone, Copy, PartialEq, Eq)]
 pub enum Given {
     Hit,
     Miss,

@@ -19,7 +19,7 @@ pub struct Pipe<O> {
 }
 
 /// How a question was sent.
-#[derive(Clone, Copy, Debug, PartialEq, Eq)]
+#[derive(Clone, Copy, PartialEq, Eq)]
 pub enum SendEnd {
     /// Its line was written.
     Written,

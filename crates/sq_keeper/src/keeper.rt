@@ -18,7 +18,7 @@ use std::sync::Wait;
 const CHUNK: usize = 4096;
 
 /// How the reading of lines ended.
-#[derive(Clone, Copy, Debug, PartialEq, Eq)]
+#[derive(Clone, Copy, PartialEq, Eq)]
 pub enum KeeperEnd {
     /// The input ended, and the desk learned that the process died.
     Ended,

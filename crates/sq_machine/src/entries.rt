@@ -6,7 +6,7 @@ use sq_rules::Outcome;
 use std::marker::Model;
 
 /// Minutes by which local time is ahead of UTC, from -840 to 840.
-#[derive(Clone, Copy, Debug, PartialEq, Eq, PartialOrd, Ord)]
+#[derive(Clone, Copy, PartialEq, Eq, PartialOrd, Ord)]
 pub struct Offset(pub i32);
 
 impl Model for Offset {
@@ -22,7 +22,7 @@ impl Model for Offset {
 }
 
 /// An event: what happens to the machine.
-#[derive(Drop, Debug)]
+#[derive(Drop)]
 pub enum Event {
     /// The machine begins, at this offset of local time.
     Begin {
@@ -152,7 +152,7 @@ pub enum Told {
 }
 
 /// One line of a journal: a moment, an event, and the answer that it had.
-#[derive(Drop, Debug)]
+#[derive(Drop)]
 pub struct Entry {
     pub moment: Moment,
     pub event: Event,

@@ -22,7 +22,7 @@ pub trait Out: Sink {
 }
 
 /// For what a link to an origin is dialled.
-#[derive(Clone, Copy, Debug, PartialEq, Eq)]
+#[derive(Clone, Copy, PartialEq, Eq)]
 pub enum LinkUse {
     /// A request and its reply, which one thread carries.
     Exchange,

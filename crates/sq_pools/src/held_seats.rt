@@ -4,7 +4,7 @@ use crate::seats::Seat;
 use crate::tag_pools::TagSeat;
 
 /// A seat that is held: in a pool with buckets by addresses, or in one with buckets by tags.
-#[derive(Drop, Debug)]
+#[derive(Drop)]
 pub enum HeldSeat {
     ByAddress(Seat),
     ByTag(TagSeat),

@@ -10,7 +10,7 @@ use std::collections::BTreeMap;
 use std::marker::Model;
 
 /// A seat in a delay pool. It is not copied: who has it gives it up once.
-#[derive(Drop, Debug)]
+#[derive(Drop)]
 pub struct Seat {
     number: SeatNo,
 }

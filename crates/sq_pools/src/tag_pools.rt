@@ -14,7 +14,7 @@ use std::marker::Model;
 use std::sync::Arc;
 
 /// A seat in a delay pool with buckets by tags. It is not copied: who has it gives it up once.
-#[derive(Drop, Debug)]
+#[derive(Drop)]
 pub struct TagSeat {
     seat: Seat,
 }

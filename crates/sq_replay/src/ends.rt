@@ -3,7 +3,7 @@ use sq_base::Text;
 use sq_rules::ConfError;
 
 /// How a run ends. Each end but `Ok`, a write fault and want of memory has a last line.
-#[derive(Drop, Debug)]
+#[derive(Drop)]
 pub enum RunEnd {
     /// The script was read to its end, and what it comes to was written.
     Ok,

@@ -7,7 +7,7 @@ use sq_base::{ProcNo, QuestionNo, Text};
 use sq_farm::FarmAct;
 
 /// What a rewriter asks for next.
-#[derive(Drop, Debug)]
+#[derive(Drop)]
 pub enum RewriteAct {
     /// This process is to be stopped.
     Stop(ProcNo),

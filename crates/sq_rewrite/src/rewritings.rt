@@ -11,7 +11,7 @@ use sq_request::retarget;
 use std::alloc::Global;
 
 /// What becomes of a request that a redirector was asked about.
-#[derive(Drop, Debug)]
+#[derive(Drop)]
 pub enum Rewriting {
     /// The request goes on as it is. The cause says why there was no reply, or that it was `BH`.
     Same(Option<Cause>),

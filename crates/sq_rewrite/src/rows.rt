@@ -11,7 +11,7 @@ use std::collections::BTreeMap;
 use std::marker::Model;
 
 /// What is known of a question.
-#[derive(Drop, Debug)]
+#[derive(Drop)]
 pub enum QuestionRow {
     /// It is about this request, and has not ended.
     Open(Request),

@@ -6,7 +6,7 @@ use crate::configs::Body;
 use crate::leaves::Leaf;
 
 /// The type of an acl, as its line names it.
-#[derive(Clone, Copy, Debug, PartialEq, Eq)]
+#[derive(Clone, Copy, PartialEq, Eq)]
 pub enum AclType {
     Src,
     Dst,

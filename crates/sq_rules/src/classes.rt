@@ -7,7 +7,7 @@ use sq_base::{Listed, Text, Texts};
 use std::marker::Model;
 
 /// A part of a key's format: what stands in its place.
-#[derive(Drop, Debug, PartialEq, Eq)]
+#[derive(Drop, PartialEq, Eq)]
 pub enum Token {
     /// `%>a`, `%SRC`: the client's address.
     ClientAddr,
@@ -39,7 +39,7 @@ pub enum Token {
 pub type Tokens = Listed<Token>;
 
 /// A class of helpers: its name, its options, the format of its keys, and the words of its program.
-#[derive(Drop, Debug)]
+#[derive(Drop)]
 pub struct Class {
     pub name: Text,
     /// Seconds for which an OK is fresh.

@@ -19,7 +19,7 @@ use std::alloc::Global;
 use std::marker::Model;
 
 /// What an acl is.
-#[derive(Drop, Debug)]
+#[derive(Drop)]
 pub enum Body {
     /// A list of values, which a request and its client meet or not.
     Leaf(Leaf),
@@ -32,7 +32,7 @@ pub enum Body {
 }
 
 /// An acl: a name, and what it holds of.
-#[derive(Drop, Debug)]
+#[derive(Drop)]
 pub struct Acl {
     pub name: Text,
     pub body: Body,
@@ -42,7 +42,7 @@ pub struct Acl {
 pub type Acls = Listed<Acl>;
 
 /// A term of a rule or a group: an acl by its place, from 0, and whether `!` stands before it.
-#[derive(Clone, Copy, Debug, PartialEq, Eq)]
+#[derive(Clone, Copy, PartialEq, Eq)]
 pub struct Term {
     pub acl: u32,
     pub negated: bool,
@@ -55,7 +55,7 @@ pub type Terms = Listed<Term>;
 pub type Lines = Listed<Terms>;
 
 /// A rule: its action, and the terms that all have to hold.
-#[derive(Drop, Debug)]
+#[derive(Drop)]
 pub struct Rule {
     pub allow: bool,
     pub terms: Terms,
@@ -67,7 +67,6 @@ pub type Rules = Listed<Rule>;
 /// A configuration. Names are unique, each named place is there and each member of a group stands
 /// before it, groups nest 32 deep at the most, and rules of pools and for fields reach no external acl. Where names of
 /// hosts are looked up, each acl of type `dst` stands with its look-up.
-#[derive(Debug)]
 pub struct Config {
     source: Text,
     dst_lookup: bool,

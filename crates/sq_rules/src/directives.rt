@@ -1,7 +1,7 @@
 //! The directives of a configuration, and the options of `external_acl_type` and `url_rewrite_children`, by their names.
 
 /// A directive.
-#[derive(Clone, Copy, Debug, PartialEq, Eq)]
+#[derive(Clone, Copy, PartialEq, Eq)]
 pub enum Directive {
     Acl,
     HttpAccess,
@@ -22,7 +22,7 @@ pub enum Directive {
 }
 
 /// An option of `external_acl_type`.
-#[derive(Clone, Copy, Debug, PartialEq, Eq)]
+#[derive(Clone, Copy, PartialEq, Eq)]
 pub enum ClassOption {
     Ttl,
     NegativeTtl,

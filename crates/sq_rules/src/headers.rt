@@ -7,7 +7,7 @@ use sq_base::{Listed, Text, WantOfMemory};
 use std::alloc::Global;
 
 /// A rule for the fields of a name.
-#[derive(Drop, Debug)]
+#[derive(Drop)]
 pub struct HeaderRule {
     /// Whether it is for fields of replies, or for those of requests.
     pub reply: bool,

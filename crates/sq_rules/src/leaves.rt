@@ -3,7 +3,7 @@ use sq_base::{Listed, Ranges, Text, Texts};
 use std::marker::Model;
 
 /// Ports from the first to the last, both included.
-#[derive(Clone, Copy, Debug, PartialEq, Eq)]
+#[derive(Clone, Copy, PartialEq, Eq)]
 pub struct PortRange {
     pub first: u16,
     pub last: u16,
@@ -14,7 +14,7 @@ pub type PortRanges = Listed<PortRange>;
 
 /// A line of `time`: weekdays, of which bit i of `days` stands for day i with Sunday as 0, and the
 /// minutes of a day from the first to the last, both included.
-#[derive(Clone, Copy, Debug, PartialEq, Eq)]
+#[derive(Clone, Copy, PartialEq, Eq)]
 pub struct Hour {
     pub days: u8,
     pub first: u32,
@@ -37,7 +37,7 @@ impl Model for Hour {
 pub type Hours = Listed<Hour>;
 
 /// A pattern of `url_regex`; `fold` is true where case is off.
-#[derive(Drop, Debug, PartialEq, Eq)]
+#[derive(Drop, PartialEq, Eq)]
 pub struct Find {
     pub pattern: Text,
     pub fold: bool,
@@ -50,7 +50,7 @@ pub type Finds = Listed<Find>;
 pub type Numbers = Listed<u32>;
 
 /// A leaf acl by its type, with its values.
-#[derive(Drop, Debug)]
+#[derive(Drop)]
 pub enum Leaf {
     /// `src`: the client's address.
     Src(Ranges),

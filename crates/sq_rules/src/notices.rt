@@ -2,7 +2,7 @@
 use sq_base::{Listed, Text};
 
 /// A line, from 1, and its directive, which has no effect here or only in part.
-#[derive(Drop, Debug, PartialEq, Eq)]
+#[derive(Drop, PartialEq, Eq)]
 pub struct Notice {
     pub line: u32,
     pub directive: Text,

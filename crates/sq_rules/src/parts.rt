@@ -7,7 +7,7 @@ use sq_base::{Listed, Text, Texts, WantOfMemory};
 use thiserror::Error;
 
 /// A term: the name of an acl, and whether `!` stands before it.
-#[derive(Drop, Debug)]
+#[derive(Drop)]
 pub struct TermPart {
     pub acl: Text,
     pub negated: bool,
@@ -20,7 +20,7 @@ pub type TermParts = Listed<TermPart>;
 pub type LineParts = Listed<TermParts>;
 
 /// What an acl is, where names stand for acls and classes.
-#[derive(Drop, Debug)]
+#[derive(Drop)]
 pub enum BodyPart {
     Leaf(Leaf),
     External { class: Text, arguments: Texts },
@@ -29,7 +29,7 @@ pub enum BodyPart {
 }
 
 /// An acl.
-#[derive(Drop, Debug)]
+#[derive(Drop)]
 pub struct AclPart {
     pub name: Text,
     pub body: BodyPart,
@@ -39,7 +39,7 @@ pub struct AclPart {
 pub type AclParts = Listed<AclPart>;
 
 /// A rule.
-#[derive(Drop, Debug)]
+#[derive(Drop)]
 pub struct RulePart {
     pub allow: bool,
     pub terms: TermParts,
@@ -49,7 +49,7 @@ pub struct RulePart {
 pub type RuleParts = Listed<RulePart>;
 
 /// A delay pool.
-#[derive(Drop, Debug)]
+#[derive(Drop)]
 pub struct PoolPart {
     pub class: u8,
     pub pairs: Limits,
@@ -60,7 +60,7 @@ pub struct PoolPart {
 pub type PoolParts = Listed<PoolPart>;
 
 /// A rule for the fields of a name, of replies or of requests.
-#[derive(Drop, Debug)]
+#[derive(Drop)]
 pub struct HeaderPart {
     pub reply: bool,
     pub name: Text,
@@ -71,7 +71,7 @@ pub struct HeaderPart {
 pub type HeaderParts = Listed<HeaderPart>;
 
 /// The parts of a configuration, in the order in which they are looked through for a fault.
-#[derive(Drop, Debug)]
+#[derive(Drop)]
 pub struct Parts {
     pub source: Text,
     /// Whether the names of hosts are looked up for acls of type `dst`. The parts have then what a reader of

@@ -4,7 +4,7 @@ use sq_base::Listed;
 use std::marker::Model;
 
 /// What a bucket gains in a second, and what it holds at the most, in bytes.
-#[derive(Clone, Copy, Debug, PartialEq, Eq)]
+#[derive(Clone, Copy, PartialEq, Eq)]
 pub struct Limit {
     pub restore: u64,
     pub max: u64,
@@ -27,7 +27,7 @@ pub type Limits = Listed<Option<Limit>>;
 
 /// A delay pool: its class, which is 1, 2, 3 or 5, a limit for each kind of that class's buckets, and the rules that
 /// say whom it delays.
-#[derive(Drop, Debug)]
+#[derive(Drop)]
 pub struct Pool {
     pub class: u8,
     pub pairs: Limits,

@@ -2,7 +2,7 @@
 use sq_base::{Addr, Request};
 
 /// The client of a connection.
-#[derive(Clone, Copy, Debug, PartialEq, Eq)]
+#[derive(Clone, Copy, PartialEq, Eq)]
 pub struct Peer {
     pub addr: Addr,
     pub port: u16,
@@ -10,7 +10,7 @@ pub struct Peer {
 
 /// The request, the client's address and port, the local minute of the week (0 is Sunday 00:00), and
 /// how many connections are open from the address, this one counted.
-#[derive(Drop, Debug)]
+#[derive(Drop)]
 pub struct Sight {
     pub request: Request,
     pub addr: Addr,

@@ -3,7 +3,7 @@ use crate::outcomes::Outcome;
 use sq_base::{Cause, Text};
 
 /// The value of a term.
-#[derive(Drop, Debug, PartialEq, Eq)]
+#[derive(Drop, PartialEq, Eq)]
 pub enum TermValue {
     /// It matches.
     Hit,
@@ -16,7 +16,7 @@ pub enum TermValue {
 }
 
 /// What rules come to.
-#[derive(Drop, Debug, PartialEq, Eq)]
+#[derive(Drop, PartialEq, Eq)]
 pub enum Value {
     /// They decide.
     Verdict(Outcome),

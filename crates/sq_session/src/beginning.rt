@@ -15,7 +15,7 @@ use std::alloc::Global;
 use std::sync::Wait;
 
 /// What an input begins with.
-#[derive(Drop, Debug)]
+#[derive(Drop)]
 pub enum Begun {
     /// A request.
     Asks(Request),

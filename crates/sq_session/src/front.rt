@@ -11,7 +11,7 @@ use std::alloc::Global;
 use thiserror::Error;
 
 /// What the opening of a connection comes to.
-#[derive(Clone, Copy, Debug, PartialEq, Eq)]
+#[derive(Clone, Copy, PartialEq, Eq)]
 pub enum Opened {
     /// It is open.
     In,
@@ -80,7 +80,7 @@ pub enum CloseFault {
 
 /// How many questions were asked, and how many bytes were granted on seats. Each stays at 2^63 - 1 once it
 /// is there.
-#[derive(Clone, Copy, Debug, PartialEq, Eq)]
+#[derive(Clone, Copy, PartialEq, Eq)]
 pub struct Counts {
     pub asked: u64,
     pub granted: u64,

@@ -2,7 +2,7 @@
 use sq_base::Text;
 
 /// What is found of a journal. Lines are numbered from 1.
-#[derive(Drop, Debug)]
+#[derive(Drop)]
 pub enum Finding {
     /// Each line is the machine's, and there are so many entries.
     Verified(u64),

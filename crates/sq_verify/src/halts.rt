@@ -2,7 +2,7 @@
 use sq_base::Text;
 
 /// Why a line ends a journal.
-#[derive(Drop, Debug)]
+#[derive(Drop)]
 pub enum Halt {
     /// It is no line of the journal, or the machine refuses its event.
     NoLine,
