@@ -4,7 +4,7 @@ use Rattle.sq_outside.specs.World.{GivesMoment}
 use Rattle.sq_machine.specs.Entries.{History, entry_at}
 use Rattle.sq_machine.specs.declared.entries.Event.{Event}
 use Rattle.sq_machine.specs.declared.entries.Told.{Told}
-use Rattle.sq_epochs.specs.declared.acts.Act.{Act}
+use Rattle.sq_machine.specs.declared.acts.Act.{Act}
 use Rattle.sq_calls.specs.Legality.{Beginning}
 use Rattle.sq_calls.specs.Moments.{AreNotedAt, Gave, GrewAt, IsAmong, IsTimely}
 use Rattle.sq_calls.specs.Telling.{AddsOne, AddsSome, MayAct, Notes, NotesAs, noted_at}

@@ -23,8 +23,8 @@ use Rattle.sq_machine.specs.Marking.{marked}
 use Rattle.sq_machine.specs.Readings.{latest}
 use Rattle.sq_channel.specs.declared.replies.Got.{Got}
 use Rattle.sq_channel.specs.declared.replies.Got.TheVariants as got
-use Rattle.sq_epochs.specs.declared.acts.Act.{Act}
-use Rattle.sq_epochs.specs.declared.acts.Act.TheVariants as act
+use Rattle.sq_machine.specs.declared.acts.Act.{Act}
+use Rattle.sq_machine.specs.declared.acts.Act.TheVariants as act
 use Rattle.sq_calls.specs.declared.faults.DeskFault.{DeskFault}
 use Rattle.sq_calls.specs.declared.faults.DeskFault.TheVariants as fault
 use Rattle.sq_calls.specs.Legality.{Beginning, IsLegalFrom, IsNameOf, configs_over}

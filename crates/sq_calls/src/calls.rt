@@ -16,7 +16,7 @@ use crate::faults::DeskFault;
 use sq_base::{Addr, CheckNo, ConnNo, EpochNo, Moment, ProcNo, Request, Texts, WantOfMemory};
 use sq_channel::Got;
 use sq_checks::Record;
-use sq_epochs::Act;
+use sq_machine::Act;
 use sq_model_rows::Stepped;
 use sq_rules::Config;
 use sq_urlmatch::Setup;

@@ -23,7 +23,7 @@ use Rattle.sq_machine.specs.Readings.{latest}
 use Rattle.sq_checks.specs.OpenChecks.{CheckParts, row}
 use Rattle.sq_checks.specs.Records.{Judged, judged_of}
 use Rattle.sq_checks.specs.Tables.{value_at}
-use Rattle.sq_epochs.specs.declared.acts.Act.{Act}
+use Rattle.sq_machine.specs.declared.acts.Act.{Act}
 use Rattle.sq_model_rows.specs.CheckRows.{held_at}
 use Rattle.sq_model_rows.specs.declared.stepping.Stepped.{Stepped}
 use Rattle.sq_model_state.specs.Answers.{ask_answer, asked_in, close_answer, died_answer, failed_answer, line_answer, name_in, open_answer, reconfigure_answer, started_answer, take_answer, take_of_held}

@@ -20,8 +20,8 @@ use Rattle.sq_channel.specs.declared.replies.Got.{Got}
 use Rattle.sq_channel.specs.declared.replies.Got.TheVariants as got
 use Rattle.sq_model_rows.specs.declared.stepping.Stepped.{Stepped}
 use Rattle.sq_model_rows.specs.declared.stepping.Stepped.TheVariants as stepped
-use Rattle.sq_epochs.specs.declared.acts.Act.{Act}
-use Rattle.sq_epochs.specs.declared.acts.Act.TheVariants as act
+use Rattle.sq_machine.specs.declared.acts.Act.{Act}
+use Rattle.sq_machine.specs.declared.acts.Act.TheVariants as act
 use Rattle.sq_checks.specs.Records.{Judged}
 use Rattle.sq_model_state.specs.Answers.{ask_answer, asked_in, close_answer, died_answer, failed_answer, line_answer, name_in, open_answer, reconfigure_answer, started_answer, take_answer}
 use Rattle.sq_model_state.specs.Changes.{after_ask, after_close, after_failed_at, after_open, after_started_at, after_take}

@@ -18,7 +18,7 @@ use Rattle.sq_machine.specs.Readings.{latest}
 use Rattle.sq_channel.specs.declared.replies.Got.{Got}
 use Rattle.sq_channel.specs.declared.replies.Got.TheVariants as got
 use Rattle.sq_epochs.specs.DueStates.{told_act}
-use Rattle.sq_epochs.specs.declared.acts.Act.{Act}
+use Rattle.sq_machine.specs.declared.acts.Act.{Act}
 use Rattle.sq_model_state.specs.Answers.{line_answer, reconfigure_answer}
 use Rattle.sq_model_state.specs.Changes.{after_end_at, after_reconfigured, first_state}
 use Rattle.sq_model_state.specs.Promises.{IsAnswered, StandsFor}

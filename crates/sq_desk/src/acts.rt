@@ -8,9 +8,8 @@ use crate::notes::Notes;
 use sq_base::{Moment, WantOfMemory};
 use sq_calls::DeskFault;
 use sq_engine::Engine;
-use sq_epochs::Act;
 use sq_journal_writers::Journal;
-use sq_machine::{Entry, Event, Told, later};
+use sq_machine::{Act, Entry, Event, Told, later};
 use std::alloc::Global;
 
 // The answer that tells of the act that is due, if one is.

@@ -27,8 +27,8 @@ use sq_base::{
 use sq_calls::{ConnCalls, ControlCalls, DeskCalls, DeskFault, HelperCalls, TellsJournal};
 use sq_channel::Got;
 use sq_checks::Record;
-use sq_epochs::Act;
 use sq_journal_writers::Journal;
+use sq_machine::Act;
 use sq_model_rows::Stepped;
 use sq_rules::Config;
 use sq_urlmatch::Setup;

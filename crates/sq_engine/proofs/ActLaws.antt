@@ -17,7 +17,7 @@ use Rattle.sq_epochs.specs.DueStates as dues
 use Rattle.sq_epochs.specs.DueStates.{act_at, after_due, change_at, change_class, change_part, due_of, live_places, send_by, sent_part, start_by, started_part, told_act, told_due}
 use Rattle.sq_epochs.specs.EpochProcs.{AreWhole}
 use Rattle.sq_epochs.specs.EpochStates.{EpochState, EpochsState, IsChanged, change_epoch, epoch_at, epoch_in, epoch_number, part_at, part_of, with_part}
-use Rattle.sq_epochs.specs.declared.acts.Act.{Act}
+use Rattle.sq_machine.specs.declared.acts.Act.{Act}
 use Rattle.sq_epochs.proofs.DueLaws.{found_self, made_same}
 use Rattle.sq_epochs.proofs.NumberLaws.{live_numbers, rising_picked}
 use Rattle.sq_epochs.proofs.ReadLaws.{config_acted, row_acted, stop_told}

@@ -11,8 +11,8 @@ use Rattle.sq_machine.specs.Next.{nothing}
 use Rattle.sq_machine.specs.Marking.{marked}
 use Rattle.sq_machine.specs.Readings.{latest}
 use Rattle.sq_epochs.specs.DueStates.{due_of}
-use Rattle.sq_epochs.specs.declared.acts.Act.{Act}
-use Rattle.sq_epochs.specs.declared.acts.Act.TheVariants as act
+use Rattle.sq_machine.specs.declared.acts.Act.{Act}
+use Rattle.sq_machine.specs.declared.acts.Act.TheVariants as act
 use Rattle.sq_machine.specs.DueActs.{Due, sends, starts, stops}
 use Rattle.sq_model_state.specs.Answers.{name_in}
 use Rattle.sq_model_state.specs.Changes.{after_send_at, after_start_at, after_stop_of}

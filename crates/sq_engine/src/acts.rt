@@ -8,8 +8,7 @@ ghost use Rattle.sq_engine.specs.EngineViews.{state_of};
 
 use crate::engines::Engine;
 use sq_base::{Moment, WantOfMemory};
-use sq_epochs::Act;
-use sq_machine::later;
+use sq_machine::{Act, later};
 use std::alloc::Global;
 
 impl Engine {

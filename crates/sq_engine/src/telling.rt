@@ -8,8 +8,7 @@ ghost use Rattle.sq_engine.specs.EngineViews.{state_of};
 
 use crate::engines::Engine;
 use sq_base::{Copying, EpochNo, Text, WantOfMemory};
-use sq_epochs::Act;
-use sq_machine::Told;
+use sq_machine::{Act, Told};
 use std::alloc::Global;
 
 impl Engine {

@@ -8,8 +8,8 @@ use Rattle.sq_machine.specs.Farms.{send_of, start_due}
 use Rattle.sq_machine.specs.Numbered.{below}
 use Rattle.sq_model_rows.specs.ClassRows.{after_sending, after_starting}
 use Rattle.sq_class.specs.Parts.{PartState}
-use Rattle.sq_epochs.specs.declared.acts.Act.{Act}
-use Rattle.sq_epochs.specs.declared.acts.Act.TheVariants as act
+use Rattle.sq_machine.specs.declared.acts.Act.{Act}
+use Rattle.sq_machine.specs.declared.acts.Act.TheVariants as act
 use Rattle.sq_epochs.specs.EpochStates.{EpochState, EpochsState, change_epoch, part_at}
 
 -- the classes of an epoch, in order

@@ -7,28 +7,10 @@ ghost use Rattle.sq_epochs.specs.EpochProcs.{SameLiving};
 
 use crate::epoch::Epoch;
 use crate::epochs::Epochs;
-use sq_base::{EpochNo, ProcNo, QuestionNo, Text, WantOfMemory};
+use sq_base::WantOfMemory;
 use sq_class::Sending;
+use sq_machine::Act;
 use std::alloc::Global;
-
-/// What is to be done next.
-#[derive(Drop)]
-pub enum Act {
-    /// The process is to be stopped.
-    Stop(ProcNo),
-    /// The question is to be written to a process, on this channel where its lines have channel numbers.
-    Send {
-        proc: ProcNo,
-        question: QuestionNo,
-        channel: Option<u32>,
-        text: Text,
-    },
-    /// A process of this class is to be started.
-    Start {
-        epoch: EpochNo,
-        class: u32,
-    },
-}
 
 fn told(sending: Sending) -> Act
     ensures { result ≡ Act.Send sending.proc sending.question sending.channel sending.text }

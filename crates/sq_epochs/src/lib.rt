@@ -19,6 +19,5 @@ mod lives;
 mod procs;
 mod stops;
 
-pub use acts::Act;
 pub use epochs::Epochs;
 pub use faults::StartedFault;

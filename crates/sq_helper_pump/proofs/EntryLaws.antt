@@ -9,8 +9,8 @@ use Rattle.sq_calls.specs.Legality.{Beginning}
 use Rattle.sq_calls.proofs.MomentLaws.{act_grew, grew_and, grew_none, one_grew}
 use Rattle.sq_calls.specs.Moments.{AreNotedAt, GrewAt}
 use Rattle.sq_calls.specs.Telling.{MayAct}
-use Rattle.sq_epochs.specs.declared.acts.Act.{Act}
-use Rattle.sq_epochs.specs.declared.acts.Act.TheVariants as act
+use Rattle.sq_machine.specs.declared.acts.Act.{Act}
+use Rattle.sq_machine.specs.declared.acts.Act.TheVariants as act
 use Rattle.sq_machine.specs.Entries.{History}
 use Rattle.sq_helper_pump.specs.Entries.{Follows, IsCaused, IsTurn, NotesTurn}
 use Rattle.sq_rules.specs.Lookups.{is_lookup_program}

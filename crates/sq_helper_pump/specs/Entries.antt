@@ -6,7 +6,7 @@ use Rattle.sq_outside.specs.World.{StartsMore}
 use Rattle.sq_helper_pipes.specs.Pipes.{Changes, HalfTells}
 use Rattle.sq_calls.specs.Moments.{GrewAt}
 use Rattle.sq_calls.specs.Telling.{MayAct}
-use Rattle.sq_epochs.specs.declared.acts.Act.{Act}
+use Rattle.sq_machine.specs.declared.acts.Act.{Act}
 use Rattle.sq_machine.specs.Entries.{History}
 use Rattle.sq_rules.specs.Lookups.{is_lookup_program}
 use Rattle.sq_helper_pump.specs.Pumps.{Programs, PumpStep, PumpTells}

@@ -10,7 +10,7 @@ use crate::turns::{Left, Turn};
 use sq_base::{EpochNo, Moment, Text};
 use sq_calls::HelperCalls;
 use sq_dst::pipe;
-use sq_epochs::Act;
+use sq_machine::Act;
 use sq_outside::Spawner;
 use std::sync::Wait;
 

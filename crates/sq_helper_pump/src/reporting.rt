@@ -9,7 +9,7 @@ use crate::reader::Reader;
 use crate::turns::{Left, Turn};
 use sq_base::{EpochNo, Moment, ProcNo};
 use sq_calls::{DeskFault, HelperCalls};
-use sq_epochs::Act;
+use sq_machine::Act;
 use sq_outside::{Out, Spawner};
 use std::sync::Wait;
 

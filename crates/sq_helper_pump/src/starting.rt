@@ -10,7 +10,7 @@ use crate::pump::ServePump;
 use crate::turns::{Left, Turn};
 use sq_base::{EpochNo, Moment, WantOfMemory};
 use sq_calls::HelperCalls;
-use sq_epochs::Act;
+use sq_machine::Act;
 use sq_outside::{Failed, Spawner};
 use std::sync::Wait;
 

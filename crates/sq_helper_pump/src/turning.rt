@@ -11,8 +11,8 @@ use crate::pump::ServePump;
 use crate::turns::{Left, Turn};
 use sq_base::{Moment, ProcNo, QuestionNo, Text};
 use sq_calls::{DeskFault, HelperCalls};
-use sq_epochs::Act;
 use sq_helper_pipes::SendEnd;
+use sq_machine::Act;
 use sq_outside::{Clock, Spawner};
 use std::sync::Wait;
 

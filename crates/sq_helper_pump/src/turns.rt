@@ -1,6 +1,6 @@
 //! What a turn of a pump answers, and what it may leave.
 use sq_base::{EpochNo, ProcNo};
-use sq_epochs::Act;
+use sq_machine::Act;
 
 /// What a turn did.
 #[derive(Drop)]

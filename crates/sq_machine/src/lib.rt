@@ -4,10 +4,11 @@
 //! history of entries says of connections (`Connections`), checks (`Checks`), epochs (`Epochs`), processes
 //! (`Processes`), questions (`Questions`), cached replies (`KeptReadings`) and buckets (`PoolReadings`), by plain
 //! records where a lower crate keeps the same (`Channels`, `Farms`, `KeptLists`, `OpenLookups`, `BucketLevels`);
-//! which act is due (`DueActs`), what a step says (`StepRule`), and what the machine answers next (`Machine`).
+//! which act is due (`Act`, `DueActs`), what a step says (`StepRule`), and what the machine answers next (`Machine`).
 //! Nothing that reads a configuration stands on them.
 #![tactic(auto)]
 
+mod acts;
 mod entries;
 mod kept;
 mod limits;
@@ -15,6 +16,7 @@ mod moments;
 mod places;
 mod refusals;
 
+pub use acts::Act;
 pub use entries::{Entry, Event, Offset, Told};
 pub use kept::CachedReply;
 pub use limits::{CONN_LIMIT, EPOCH_LIMIT, LAST_NUMBER};

@@ -11,7 +11,7 @@ use Rattle.sq_machine.specs.declared.entries.Event.{Event}
 use Rattle.sq_machine.specs.declared.entries.Event.TheVariants as event
 use Rattle.sq_machine.specs.declared.entries.Told.{Told}
 use Rattle.sq_machine.specs.declared.refusals.Refusal.{Refusal}
-use Rattle.sq_epochs.specs.declared.acts.Act.{Act}
+use Rattle.sq_machine.specs.declared.acts.Act.{Act}
 use Rattle.sq_conn_policy.proofs.WorkLaws.{works_same, works_self, works_then}
 use Rattle.sq_rewrite.specs.Calls.{Call, Asked, Acted, Took}
 use Rattle.sq_rewrite.specs.States.{Answers, Refuses, RewriteState, act_due, after, ask_refusal, is_of_processes, row_at, take_refusal, taken_of}

@@ -6,7 +6,7 @@ ghost use Rattle.std.specs.declared.option.Option.{Option};
 
 use sq_base::{EpochNo, Moment, ProcNo, Text};
 use sq_engine::Engine;
-use sq_epochs::Act;
+use sq_machine::Act;
 use std::alloc::Global;
 use std::sync::Wait;
 

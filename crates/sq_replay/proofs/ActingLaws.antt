@@ -7,7 +7,7 @@ use Rattle.sq_machine.specs.Machine.{next}
 use Rattle.sq_machine.specs.Next.{nothing}
 use Rattle.sq_machine.specs.Marking.{marked}
 use Rattle.sq_epochs.specs.DueStates.{told_act}
-use Rattle.sq_epochs.specs.declared.acts.Act.{Act}
+use Rattle.sq_machine.specs.declared.acts.Act.{Act}
 use Rattle.sq_machine.specs.DueActs.{Due, sends, starts, stops}
 use Rattle.sq_model_state.specs.Acts.{due_in}
 use Rattle.sq_model_state.specs.States.{IsSame, State}

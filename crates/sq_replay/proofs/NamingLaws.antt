@@ -20,8 +20,8 @@ use Rattle.sq_machine.specs.Readings.{latest}
 use Rattle.sq_model_rows.specs.CheckRows.{Held, held_at}
 use Rattle.sq_model_rows.specs.declared.stepping.Stepped.{Stepped}
 use Rattle.sq_model_rows.specs.declared.stepping.Stepped.TheVariants as stepped
-use Rattle.sq_epochs.specs.declared.acts.Act.{Act}
-use Rattle.sq_epochs.specs.declared.acts.Act.TheVariants as act
+use Rattle.sq_machine.specs.declared.acts.Act.{Act}
+use Rattle.sq_machine.specs.declared.acts.Act.TheVariants as act
 use Rattle.sq_machine.specs.DueActs.{Due}
 use Rattle.sq_model_state.specs.Answers.{name_in}
 use Rattle.sq_model_state.specs.Promises.{IsAnswered, StandsFor}

@@ -9,7 +9,7 @@ use Rattle.sq_calls.specs.declared.faults.DeskFault.{DeskFault}
 use Rattle.sq_calls.specs.declared.faults.DeskFault.TheVariants as fault
 use Rattle.sq_channel.specs.declared.replies.Got.{Got}
 use Rattle.sq_channel.specs.declared.replies.Got.TheVariants as got
-use Rattle.sq_epochs.specs.declared.acts.Act.{Act}
+use Rattle.sq_machine.specs.declared.acts.Act.{Act}
 use Rattle.sq_machine.specs.declared.entries.Event.{Event}
 use Rattle.sq_machine.specs.declared.entries.Told.{Told}
 use Rattle.sq_machine.specs.declared.refusals.Refusal.TheVariants as refusal

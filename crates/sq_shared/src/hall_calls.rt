@@ -17,7 +17,7 @@ use sq_base::{Addr, CheckNo, ConnNo, EpochNo, Moment, ProcNo, Request};
 use sq_calls::{DeskCalls, DeskFault};
 use sq_channel::Got;
 use sq_checks::Record;
-use sq_epochs::Act;
+use sq_machine::Act;
 use sq_model_rows::Stepped;
 use sq_outside::Clock;
 use sq_urlmatch::Setup;

@@ -11,7 +11,7 @@ use crate::waits::{wake_after_line, wake_all_after, wake_if_stopped, wake_pump_a
 use sq_base::{EpochNo, Moment, ProcNo, Texts, WantOfMemory};
 use sq_calls::{DeskCalls, DeskFault, HelperCalls, TellsJournal};
 use sq_channel::Got;
-use sq_epochs::Act;
+use sq_machine::Act;
 use sq_rules::Config;
 use std::alloc::Global;
 use std::sync::ledger::Share;

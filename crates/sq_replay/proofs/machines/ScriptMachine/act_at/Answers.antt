@@ -3,7 +3,7 @@ use Rattle.sq_machine.specs.declared.entries.Told.{Told}
 use Rattle.sq_engine.specs.EngineViews.{state_of}
 use Rattle.sq_replay.specs.MachineViews.{MachineView, machine_of}
 use Rattle.std.proofs.Common.{◌<◌}
-use Rattle.sq_epochs.specs.declared.acts.Act.{Act}
+use Rattle.sq_machine.specs.declared.acts.Act.{Act}
 use Rattle.sq_engine.specs.Acting.{IsActPromised, due_now, told_of_act}
 use Rattle.sq_replay.specs.Dues.{dues_in}
 use Rattle.sq_replay.specs.Making.{IsActing}
