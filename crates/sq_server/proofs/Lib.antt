@@ -1,4 +1,3 @@
 mod BeginLaws
-mod EndLaws
 mod SetupLaws
 mod ThreadLaws

@@ -6,16 +6,16 @@ ghost use Rattle.sq_outside.specs.Causes.{count_limit};
 ghost use Rattle.sq_shared.specs.Granting.{granted_together};
 ghost use Rattle.sq_server.specs.Beginning.{HasCountedNone};
 
-use crate::running::{OpenedBooks, Wholes};
 use crate::starting::Start;
 use crate::watched::{Before, Watched};
-use sq_base::{Copying, EpochNo, Moment, Texts, WantOfMemory};
+use sq_base::{Copying, EpochNo, Moment, WantOfMemory};
 use sq_calls::{DeskCalls, DeskFault};
 use sq_desk::{Desk, DeskStart};
 use sq_journal_writers::Journal;
 use sq_pools::{Pools, TagPools};
 use sq_rewrite::Rewriter;
 use sq_rules::Config;
+use sq_server_threads::{OpenedBooks, RewriterStart, Wholes};
 use sq_shared::{Asks, Bank, Grants, Hall, Ledgers, Makes, Refusals, RewriterHall, RewriterRoom};
 use std::alloc::Global;
 use std::sync::ledger::Blank;
@@ -35,13 +35,6 @@ pub(crate) struct DeskAndPools<J: Journal, B: Before + DeskStart> {
     pub desk: Desk<Watched<J, B>, B>,
     pub pools: Pools,
     pub tags: TagPools,
-}
-
-/// A rewriter behind its lock, and the words of its program.
-#[derive(Drop)]
-pub(crate) struct RewriterStart {
-    pub room: RewriterRoom,
-    pub words: Texts,
 }
 
 /// The rewriter of a configuration behind its lock, if it states one.

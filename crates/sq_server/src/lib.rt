@@ -1,8 +1,8 @@
 //! A server: the machine with its journal, the rewriter, the delay pools and the listener behind their locks, and the
 //! threads round them.
 //!
-//! `serve` makes the desk and runs the pump and the rewriter's pump with their keepers, the workers and a panel beside one
-//! another. When the panel's run has ended, the listener is stopped; once every open session has ended no more is to be done,
+//! `serve` makes the desk, and runs the threads of `sq_server_threads`: the pump and the rewriter's pump with their keepers, the
+//! workers and a panel beside one another. When the panel's run has ended, the listener is stopped; once every open session has ended no more is to be done,
 //! the processes are stopped, and all threads have returned. Then it hands back the listener, the journal, the pools and the
 //! panel. A journal that tells is legal, its requests are the sum of those that the sessions counted, and what the pools of
 //! both kinds granted is the sum of what they were granted. It says whether the journal or the listener failed, each only where the count of
@@ -10,7 +10,6 @@
 #![tactic(auto)]
 
 mod beginning;
-mod running;
 mod serving;
 mod starting;
 mod threads;

@@ -9,7 +9,6 @@ ghost use Rattle.sq_desk.specs.Calling.{IsUnbegun};
 ghost use Rattle.sq_calls.specs.Legality.{IsLegal};
 
 use crate::beginning::{Blanks, DeskAndPools, begin, open_books, rewriter_of};
-use crate::running::{REFUSALS, ServerRun, ThreadTools, Tools};
 use crate::starting::{Served, Start, Unserved};
 use crate::threads::has_threads;
 use crate::watched::{Before, Watched};
@@ -20,6 +19,7 @@ use sq_desk::{Desk, DeskStart};
 use sq_journal_writers::Journal;
 use sq_outside::{Clock, Net, Parts};
 use sq_rules::Config;
+use sq_server_threads::{REFUSALS, ServerRun, ThreadTools, Tools};
 use sq_shared::{Ledgers, NetTypes};
 use std::alloc::Global;
 use std::marker::Brand;
@@ -46,26 +46,31 @@ fn pump_count(config: &Config) -> u32
     if config.rewriter().is_some() { 2 } else { 1 }
 }
 
-impl<N: NetTypes + Send> Tools<N> {
+// What a server starts with: the parts of its net, what its machine begins with, and its journal.
+#[derive(Drop)]
+struct ServerStart<N: NetTypes, J> {
+    tools: Tools<N>,
+    start: Start,
+    journal: J,
+}
+
+impl<N: NetTypes + Send, J: Journal + Send + Drop> ServerStart<N, J> {
     // Makes the desk, the rewriter and the pools, and runs the server.
     fn serve_with<
         R: Threads + Wait + Sync,
-        J: Journal + Send + Drop,
         K: Panel + Drop,
         B: Ledgers + Before + DeskStart + Send + Sync,
     >(
-        mut self,
+        self,
         rt: &R,
         alloc: Global,
-        start: Start,
-        journal: J,
         workers: u32,
         panel: K,
         blanks: Blanks,
     ) -> Result<Served<N::L, J, K>, Unserved<N::L, J, K>>
-        requires begun { B.faults ≡ J.faults journal }
-        requires first { B.first ≡ record { config = start.setup; offset = start.offset } }
-        requires empty { IfSome (J.history journal) (λ h. h ≡ []) }
+        requires begun { B.faults ≡ J.faults self.journal }
+        requires first { B.first ≡ record { config = self.start.setup; offset = self.start.offset } }
+        requires empty { IfSome (J.history self.journal) (λ h. h ≡ []) }
         requires some { (0 < workers) × (workers ≤ 2 ^ 31) }
         requires asks { (blanks.asks.name ≡ B.asks.name) × (blanks.asks.parts ≡ B.asks.parts)
             × (B.asks.parts ≡ workers + workers) }
@@ -79,7 +84,7 @@ impl<N: NetTypes + Send> Tools<N> {
             × (B.grants.parts ≡ workers + workers) }
         ensures legal { IfOk result
             (λ s. IfSome (J.history s.journal)
-            (IsLegal (record { config = start.setup; offset = start.offset }))) }
+            (IsLegal (record { config = self.start.setup; offset = self.start.offset }))) }
         ensures asks { IfOk result
             (λ s. ForSome (J.history s.journal) (λ h. s.requests ≡ min (asks_in h) count_limit)) }
         ensures grants { IfOk result
@@ -88,34 +93,39 @@ impl<N: NetTypes + Send> Tools<N> {
             (λ s. (n : ℕ) × K.gives panel s.panel s.end n
             × ForSome (J.history s.journal) (λ h. n + 1 ≡ current h)) }
         ensures stopped { IfOk result
-            (λ s. s.stopped ≡ true → Rose (J.faults journal) (J.faults s.journal)) }
+            (λ s. s.stopped ≡ true → Rose (J.faults self.journal) (J.faults s.journal)) }
         ensures quiet { IfOk result
-            (λ s. s.stopped ≡ false → J.faults s.journal ≡ J.faults journal) }
+            (λ s. s.stopped ≡ false → J.faults s.journal ≡ J.faults self.journal) }
         ensures failed { IfOk result (λ s. s.failed ≡ true → 0 < N.L.faults s.listener) }
-        ensures later { IfOk result (λ s. J.faults journal ≤ J.faults s.journal) }
+        ensures later { IfOk result (λ s. J.faults self.journal ≤ J.faults s.journal) }
         ensures unserved { IfErr result
-            (λ u. IsUnbegun u.fault (J.faults journal) (J.faults u.journal)) }
-        ensures unwritten { IfErr result (λ u. J.history u.journal ≡ J.history journal) }
-        ensures unrun { IfErr result (λ u. (u.panel ≡ panel) × (u.listener ≡ self.listener)) }
+            (λ u. IsUnbegun u.fault (J.faults self.journal) (J.faults u.journal)) }
+        ensures unwritten { IfErr result (λ u. J.history u.journal ≡ J.history self.journal) }
+        ensures unrun { IfErr result (λ u. (u.panel ≡ panel) × (u.listener ≡ self.tools.listener)) }
     {
+        let ServerStart {
+            mut tools,
+            start,
+            journal,
+        } = self;
         let rewriter = match rewriter_of(alloc, start.setup.config()) {
             Ok(rewriter) => rewriter,
             Err(WantOfMemory) => {
                 return Err(Unserved {
                     fault: DeskFault::WantOfMemory,
-                    listener: self.listener,
+                    listener: tools.listener,
                     journal,
                     panel,
                 });
             }
         };
-        let now = self.threads.clock.now();
+        let now = tools.threads.clock.now();
         let machine = match begin::<J, B>(alloc, start, journal, now) {
             Ok(machine) => machine,
             Err((fault, journal)) => {
                 return Err(Unserved {
                     fault,
-                    listener: self.listener,
+                    listener: tools.listener,
                     journal,
                     panel,
                 });
@@ -133,7 +143,7 @@ impl<N: NetTypes + Send> Tools<N> {
             end,
             requests,
             granted,
-        } = opened.run::<R, N, K>(rt, alloc, rewriter, self, workers, panel);
+        } = opened.run::<R, N, K>(rt, alloc, rewriter, tools, workers, panel);
         let (journal, stopped) = journal_of(desk);
         Ok(Served {
             listener,
@@ -226,5 +236,10 @@ pub fn serve<R: Threads + Wait + Sync, N: Net, J: Journal + Send + Drop, K: Pane
         refusals: Blank::new(REFUSALS),
         grants: Blank::new(both),
     };
-    tools.serve_with::<R, J, K, Brand>(rt, alloc, start, journal, workers, panel, blanks)
+    let begun = ServerStart {
+        tools,
+        start,
+        journal,
+    };
+    begun.serve_with::<R, K, Brand>(rt, alloc, workers, panel, blanks)
 }

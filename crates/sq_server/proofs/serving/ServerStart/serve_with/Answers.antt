@@ -1,7 +1,7 @@
 use denote.Exit.{no}
 use denote.Param.Send.{arg_send, param_send}
 use Rattle.sq_server.proofs.ThreadLaws.{desk_send, watched_send}
-use Rattle.sq_server.proofs.running.Tools.serve_with.Goals as goal
+use Rattle.sq_server.proofs.serving.ServerStart.serve_with.Goals as goal
 
 pub run-desk-requires-send-D : goal.run-desk-requires-send-D
 run-desk-requires-send-D g c κs within = param_send _ _

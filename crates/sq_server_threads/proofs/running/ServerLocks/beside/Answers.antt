@@ -1,6 +1,6 @@
 -- one thing after the other: as one search it would be too long
 use Rattle.std.proofs.Common.{rules, arith}
-use Rattle.sq_server.proofs.running.ServerLocks.beside.Goals as goal
+use Rattle.sq_server_threads.proofs.running.ServerLocks.beside.Goals as goal
 
 pub join-requires-after_bounds : goal.join-requires-after_bounds
 join-requires-after_bounds g c κs within = (

@@ -7,7 +7,6 @@ ghost use Rattle.sq_shared.specs.Books.{asks_in};
 ghost use Rattle.sq_shared.specs.Granting.{granted_together};
 ghost use Rattle.sq_machine.specs.Readings.{current};
 
-use crate::beginning::RewriterStart;
 use sq_base::Texts;
 use sq_calls::DeskCalls;
 use sq_control::{ListenerMonitor, Panel, PanelEnd};
@@ -27,7 +26,7 @@ use std::thread::{Threads, join};
 
 /// What the threads of a server work with.
 #[derive(Drop)]
-pub(crate) struct ThreadTools<N: NetTypes> {
+pub struct ThreadTools<N: NetTypes> {
     pub dialer: N::D,
     pub spawner: N::S,
     pub resolver: N::Q,
@@ -36,7 +35,7 @@ pub(crate) struct ThreadTools<N: NetTypes> {
 
 /// The parts of an opened net.
 #[derive(Drop)]
-pub(crate) struct Tools<N: NetTypes> {
+pub struct Tools<N: NetTypes> {
     pub listener: N::L,
     pub stopper: N::T,
     pub threads: ThreadTools<N>,
@@ -44,7 +43,7 @@ pub(crate) struct Tools<N: NetTypes> {
 
 /// The whole of each book's shares, before anything is counted.
 #[derive(Drop)]
-pub(crate) struct Wholes<B: Ledgers> {
+pub struct Wholes<B: Ledgers> {
     pub asked: Share<Asks<B>>,
     pub made: Share<Makes<B>>,
     pub refused: Share<Refusals<B>>,
@@ -53,7 +52,7 @@ pub(crate) struct Wholes<B: Ledgers> {
 
 /// What is handed back when all threads have returned.
 #[derive(Drop)]
-pub(crate) struct ServerRun<D, L, K> {
+pub struct ServerRun<D, L, K> {
     pub desk: D,
     pub pools: Pools,
     pub tags: TagPools,
@@ -67,11 +66,18 @@ pub(crate) struct ServerRun<D, L, K> {
 
 /// Into how many parts the book of refusals is cut: for the pump, for the panel, for each worker, and for each keeper that
 /// will ever be started.
-pub(crate) const REFUSALS: u64 = 0x8000_0000_0000_0000;
+pub const REFUSALS: u64 = 0x8000_0000_0000_0000;
+
+/// A rewriter behind its lock, and the words of its program.
+#[derive(Drop)]
+pub struct RewriterStart {
+    pub room: RewriterRoom,
+    pub words: Texts,
+}
 
 /// The desk and the pools for their locks, with the whole of each book's shares.
 #[derive(Drop)]
-pub(crate) struct OpenedBooks<D: DeskCalls, B: Ledgers> {
+pub struct OpenedBooks<D: DeskCalls, B: Ledgers> {
     pub hall: Hall<D, B>,
     pub bank: Bank<Grants<B>>,
     pub wholes: Wholes<B>,
@@ -391,7 +397,7 @@ impl<D: DeskCalls + Send + Drop, B: Ledgers + Send + Sync> OpenedBooks<D, B> {
     /// Runs a server over a desk, a rewriter, if there is one, and pools that are in their locks, until the panel's run has
     /// ended and all threads have returned.
     #[tactic(auto, using(crate::proofs::EndLaws::asks_summed, crate::proofs::EndLaws::grants_summed))]
-    pub(crate) fn run<R: Threads + Wait + Sync, N: NetTypes + Send, K: Panel + Drop>(
+    pub fn run<R: Threads + Wait + Sync, N: NetTypes + Send, K: Panel + Drop>(
         self,
         rt: &R,
         alloc: Global,
