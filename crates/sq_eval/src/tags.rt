@@ -10,7 +10,7 @@ ghost use Rattle.sq_rules.specs.Values.{answer_for, answer_value};
 ghost use Rattle.sq_eval.specs.Takings.{answers_for};
 ghost use Rattle.sq_eval.specs.Traces as traces;
 
-use crate::taking::{turned, value_if};
+use crate::taking::{turned, value_if, what_value};
 use sq_base::{Answer, Answers, Copying, Pair, Steps, Text, WantOfMemory, What};
 use sq_format::key;
 use sq_rules::{Acl, Body, Config, Facts, Rule, Sight, Term, TermValue, Terms};
@@ -70,28 +70,26 @@ fn find_answer<'a>(answers: &'a [Answer], class: u32, key: &Text) -> Option<&'a 
         .find(|answer| answer.class == class && answer.key == *key)
 }
 
+// The tag of an answer: the value of the first pair `tag`, unless it is a fault.
+fn what_tag(alloc: Global, what: &What) -> Result<Option<Text>, WantOfMemory>
+    ensures { IfOk result (λ t. t ≡ tag_in (Some what.now)) }
+{
+    match what {
+        What::Yes(pairs) => tag_pair(alloc, pairs.as_slice()),
+        What::No(pairs) => tag_pair(alloc, pairs.as_slice()),
+        What::Fault(_) => Ok(None),
+    }
+}
+
 // The external acl at a place, with this answer.
 fn traced_by(alloc: Global, acl: u32, what: &What) -> Result<Traced, WantOfMemory>
     ensures value { (key : List ℕ)
         → IfOk result (λ x. x.value ≡ answer_value acl key (Some what.now)) }
     ensures tag { IfOk result (λ x. x.tag ≡ tag_in (Some what.now)) }
 {
-    match what {
-        What::Yes(pairs) => {
-            let tag = tag_pair(alloc, pairs.as_slice())?;
-            let value = TermValue::Hit;
-            Ok(Traced { value, tag })
-        }
-        What::No(pairs) => {
-            let tag = tag_pair(alloc, pairs.as_slice())?;
-            let value = TermValue::Miss;
-            Ok(Traced { value, tag })
-        }
-        What::Fault(cause) => Ok(Traced {
-            value: TermValue::Fault { acl, cause: *cause },
-            tag: None,
-        }),
-    }
+    let tag = what_tag(alloc, what)?;
+    let value = what_value(acl, what);
+    Ok(Traced { value, tag })
 }
 
 // The external acl at a place, of this class, by the answer for the key.

@@ -35,7 +35,7 @@ fn is_for(answer: &Answer, class: u32, key: &Text) -> bool
 }
 
 // The value of an external acl with this answer: OK is a match, ERR is none.
-fn what_value(acl: u32, what: &What) -> TermValue
+pub(crate) fn what_value(acl: u32, what: &What) -> TermValue
     ensures { (key : List ℕ) → result ≡ answer_value acl key (Some what.now) }
 {
     match what {
