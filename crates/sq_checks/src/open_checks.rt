@@ -77,10 +77,8 @@ impl OpenChecks {
         ensures rows { OnOk result (rows_of self.new ≡ rows_of self.old ++ row number check ∷ []) }
         ensures err { OnErr result (self.new ≡ self.old) }
     {
-        match self.map.insert(number, check) {
-            Ok(_) => Ok(()),
-            Err(_) => Err(WantOfMemory),
-        }
+        drop(self.map.insert(number, check)?);
+        Ok(())
     }
 
     /// Puts the answer that came to a check among its others, if one did. As a row it stays as it is.

@@ -13,7 +13,6 @@ use std::sync::Arc;
 
 /// A check that is over, with the facts of what it saw. Its outcome is the verdict of its configuration over that
 /// and its answers.
-#[derive(Drop)]
 pub struct Record {
     pub(crate) check: CheckNo,
     pub(crate) epoch: EpochNo,
@@ -25,6 +24,24 @@ pub struct Record {
     pub(crate) pool: Option<u32>,
     pub(crate) looks: u64,
     pub(crate) steps: u64,
+}
+
+// Written out, so that the drops of its parts are proved here alone, and not in each crate that lets a record go.
+impl Drop for Record {
+    fn drop(self) {
+        let Record {
+            check: _,
+            epoch: _,
+            config: _,
+            sight: _,
+            facts: _,
+            answers: _,
+            outcome: _,
+            pool: _,
+            looks: _,
+            steps: _,
+        } = self;
+    }
 }
 
 impl Model for Record {

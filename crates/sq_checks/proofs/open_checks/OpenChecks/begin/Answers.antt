@@ -4,15 +4,15 @@ use Rattle.sq_checks.specs.OpenChecks.{all_before, entry_row, rows_of}
 use Rattle.sq_checks.proofs.MapLaws.{put_last}
 use Rattle.sq_checks.proofs.open_checks.OpenChecks.begin.Goals as goal
 
-pub returns-in-Ok-clause-list : goal.returns-in-Ok-clause-list
-returns-in-Ok-clause-list c =
+pub returns-clause-list : goal.returns-clause-list
+returns-clause-list c =
     let below : all_before c.args.number (rows_of c.self.inside.map.entries) ≡ true = rw c.self.view_is c.requires in
-    rw (← c.self.view_is) (c.in-Ok.ensures.entries
+    rw (← c.self.view_is) (c.in_ok-insert.ensures.entries
     ∙ put_last c.args.number c.args.check c.self.inside.map.entries below)
 
-pub returns-in-Ok-clause-rows : goal.returns-in-Ok-clause-rows
-returns-in-Ok-clause-rows c =
+pub returns-clause-rows : goal.returns-clause-rows
+returns-clause-rows c =
     let below : all_before c.args.number (rows_of c.self.inside.map.entries) ≡ true = rw c.self.view_is c.requires in
     rw (← c.self.view_is) (ap rows_of
-    (c.in-Ok.ensures.entries ∙ put_last c.args.number c.args.check c.self.inside.map.entries below)
+    (c.in_ok-insert.ensures.entries ∙ put_last c.args.number c.args.check c.self.inside.map.entries below)
     ∙ map-append entry_row c.self.inside.map.entries ((c.args.number, c.args.check) ∷ []))
