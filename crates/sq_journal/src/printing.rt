@@ -14,7 +14,7 @@ use crate::escapes::{put_escaped, put_text};
 use crate::putting::{put, put_decimal};
 use itoa::Buffer;
 use sq_base::{Addr, ConnNo, Field, SeatNo, Text};
-use sq_machine::Event;
+use sq_machine::{Event, Offset};
 use sq_outside::{Failed, Sink};
 
 /// A word of a line, and what it says.
@@ -115,6 +115,20 @@ pub fn put_pair<'a, O: Sink>(
     )
 }
 
+/// Puts a name and a text.
+pub fn put_named<'a, O: Sink>(to: &mut O, name: &'a [u8], text: &'a Text) -> Result<(), Failed>
+    ensures { Puts (O.contents to.old) (O.contents to.new) (O.faults to.old) (O.faults to.new)
+        result (after_spaces (name.now ∷ text_word text.now ∷ [])) }
+{
+    put_pieces(
+        to,
+        &[
+            EntryPiece::Plain(name),
+            EntryPiece::Escaped(text.as_bytes()),
+        ],
+    )
+}
+
 // Puts a space, and a field's name, `:` and value as one word.
 fn put_field<O: Sink>(to: &mut O, field: &Field) -> Result<(), Failed>
     ensures { Puts (O.contents to.old) (O.contents to.new) (O.faults to.old) (O.faults to.new)
@@ -155,10 +169,7 @@ pub fn put_event<O: Sink>(to: &mut O, event: &Event) -> Result<(), Failed>
         result (after_spaces (event_words event.now)) }
 {
     match event {
-        Event::Begin { offset } => {
-            let words = [EntryPiece::Plain(b"begin"), EntryPiece::Offset(offset.0)];
-            put_pieces(to, &words)
-        }
+        Event::Begin { offset } => put_begin(to, *offset),
         Event::Open { conn, addr, port } => put_open(to, *conn, *addr, *port),
         Event::Close { conn } => put_number(to, b"close", conn.0),
         Event::Ask {
@@ -174,17 +185,22 @@ pub fn put_event<O: Sink>(to: &mut O, event: &Event) -> Result<(), Failed>
         Event::Line { proc, bytes } => put_pair(to, b"line", proc.0, bytes),
         Event::Died { proc } => put_number(to, b"died", proc.0),
         Event::Act => put_name(to, b"act"),
-        Event::Reconfigure { text } => {
-            let words = [
-                EntryPiece::Plain(b"reconfigure"),
-                EntryPiece::Escaped(text.as_bytes()),
-            ];
-            put_pieces(to, &words)
-        }
+        Event::Reconfigure { text } => put_named(to, b"reconfigure", text),
         Event::Seat { conn } => put_number(to, b"seat", conn.0),
         Event::Grant { seat, wanted } => put_grant(to, *seat, *wanted),
         Event::Leave { seat } => put_number(to, b"leave", seat.0),
     }
+}
+
+// Puts the words of a `begin`.
+fn put_begin<O: Sink>(to: &mut O, offset: Offset) -> Result<(), Failed>
+    ensures { Puts (O.contents to.old) (O.contents to.new) (O.faults to.old) (O.faults to.new)
+        result (after_spaces (event_words (event.Begin offset))) }
+{
+    put_pieces(
+        to,
+        &[EntryPiece::Plain(b"begin"), EntryPiece::Offset(offset.0)],
+    )
 }
 
 // Puts the words of an `open`.

@@ -7,7 +7,7 @@ ghost use Rattle.sq_journal.specs.Lines.{after_spaces};
 ghost use Rattle.sq_journal.specs.Putting.{Puts};
 ghost use Rattle.sq_machine.specs.declared.entries.Told.TheVariants as told;
 
-use crate::printing::{EntryPiece, put_name, put_number, put_pair, put_pieces};
+use crate::printing::{EntryPiece, put_name, put_named, put_number, put_pair, put_pieces};
 use sq_base::{Cause, EpochNo, ProcNo, QuestionNo, SeatNo, Text, Word};
 use sq_machine::Told;
 use sq_outside::{Failed, Sink};
@@ -22,13 +22,7 @@ pub fn put_told<O: Sink>(to: &mut O, answer: &Told) -> Result<(), Failed>
         Told::Epoch(epoch) => put_number(to, b"epoch", epoch.0),
         Told::Fine => put_name(to, b"ok"),
         Told::Check(check) => put_number(to, b"check", check.0),
-        Told::Took(class) => {
-            let words = [
-                EntryPiece::Plain(b"took"),
-                EntryPiece::Escaped(class.as_bytes()),
-            ];
-            put_pieces(to, &words)
-        }
+        Told::Took(class) => put_named(to, b"took", class),
         Told::Waits(question) => put_number(to, b"waits", question.0),
         Told::Done => put_name(to, b"done"),
         Told::Judged { epoch, outcome } => put_judged(to, *epoch, outcome),

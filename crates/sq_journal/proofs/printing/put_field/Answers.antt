@@ -5,6 +5,12 @@ use Rattle.sq_journal.proofs.PutLaws.{puts_then, puts_stop}
 use Rattle.sq_journal.proofs.PutSameLaws.{puts_as}
 use Rattle.sq_journal.proofs.printing.put_field.Goals as goal
 
+pub returns-in-Err : goal.returns-in-Err
+returns-in-Err g c =
+    let f = c.args.field.now in
+    puts_as _ _ _ _ _ _ _ (field_text f)
+    (puts_stop _ _ _ _ _ _ (codes " ") (escaped f.name ++ (codes ":" ++ escaped f.value)) c.in-Err.ensures)
+
 pub returns-in-Err-put_escaped : goal.returns-in-Err-put_escaped
 returns-in-Err-put_escaped g c =
     let f = c.args.field.now in
