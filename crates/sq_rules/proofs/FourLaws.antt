@@ -1,5 +1,5 @@
 -- The four acls of one of type `dst` behind others: their names are free, and they nest no deeper than they may.
-use Rattle.std.proofs.Common.{◌≡◌, ℕ, ◌+◌, suc, max, List, [], ◌∷◌, ◌++◌, length, take, Bool, true, false, ◌&&◌, refl, ap, subst, ◌∙◌, arith, Some, None, slice_get, nat_le, append_assoc}
+use Rattle.std.proofs.Common.{◌≡◌, ℕ, suc, max, List, [], ◌∷◌, ◌++◌, length, take, Bool, true, false, ◌&&◌, refl, ap, subst, ◌∙◌, arith, Some, None, slice_get, nat_le, append_assoc}
 use Rattle.std.proofs.lemmas.List.{length_push}
 use Rattle.std.specs.Prelude.{codes, slice_index_or}
 use Rattle.sq_base.specs.declared.addresses.Range.{Range}
@@ -9,7 +9,7 @@ use Rattle.sq_rules.proofs.TableLaws.{nesting_at, nestings_length}
 use Rattle.sq_rules.specs.Building.{place_of}
 use Rattle.sq_rules.specs.Configurations.{nesting_of, nestings}
 use Rattle.sq_rules.specs.Limits.{nesting_limit}
-use Rattle.sq_rules.specs.Lookups.{asking_acl, begins_literal, either_acl, holds_all, literal_name, looked_up, lookup_name, named_acl, named_name, values_acl}
+use Rattle.sq_rules.specs.Lookups.{asking_acl, begins_literal, either_acl, holds_all, looked_up, lookup_name, named_acl, named_name, values_acl}
 use Rattle.sq_rules.specs.declared.configs.Acl.{Acl}
 use Rattle.sq_rules.specs.declared.configs.Body.{Body}
 use Rattle.sq_rules.specs.declared.configs.Body.TheVariants as body
@@ -67,7 +67,7 @@ first_flat (a ∷ acls) more is = nesting_at (a ∷ acls ++ more) 0 a refl
 long_one : (acls : List Acl) (n : List ℕ) (v : List Range) → length (with_one acls n v) ≡ suc (length acls)
 long_one acls n v = omega (arith, length_push acls (values_acl n v))
 
-long_two : (acls : List Acl) (n : List ℕ) (v : List Range) → length (with_two acls n v) ≡ suc (suc (length acls))
+pub long_two : (acls : List Acl) (n : List ℕ) (v : List Range) → length (with_two acls n v) ≡ suc (suc (length acls))
 long_two acls n v = omega (arith, length_push (with_one acls n v) (asking_acl n), long_one acls n v)
 
 asking_flat : (acls : List Acl) (n : List ℕ) (v : List Range)
@@ -133,16 +133,3 @@ all_four acls n v = behind acls (values_acl n v) (asking_acl n) (named_acl (leng
         → (((xs ++ a ∷ []) ++ b ∷ []) ++ c ∷ []) ++ e ∷ [] ≡ xs ++ a ∷ b ∷ c ∷ e ∷ []
     behind [] a b c e = refl
     behind (x ∷ xs) a b c e = ap (λ l. x ∷ l) (behind xs a b c e)
-
--- the first two are put at the end
-pub two_are : (acls now : List Acl) (n : List ℕ) (v : List Range) (literal lookup : List ℕ) (asks : Body)
-    → now ≡ (acls ++ (record { name = literal; body = (values_acl n v).body }) ∷ [])
-    ++ (record { name = lookup; body = asks }) ∷ []
-    → literal ≡ literal_name n → lookup ≡ lookup_name n → asks ≡ (asking_acl n).body → now ≡ with_two acls n v
-two_are acls now n v literal lookup asks now_is one two three = rw (now_is, one, two, three) refl
-
--- and the third
-pub three_are : (acls now : List Acl) (n : List ℕ) (v : List Range) (named : List ℕ) (b : Body)
-    → now ≡ with_two acls n v → named ≡ named_name n → b ≡ (named_acl (length acls) n).body
-    → now ++ (record { name = named; body = b }) ∷ [] ≡ with_three acls n v
-three_are acls now n v named b now_is named_is body_is = rw (now_is, named_is, body_is) refl

@@ -1,11 +1,13 @@
 //! The acls of a configuration under way.
-ghost use Rattle.std.specs.Prelude.{◌≡◌, ◌≢◌, ◌∷◌, ◌++◌, ◌+◌, ◌<◌, ◌≤◌, [], true, false, ◌-◌, if◌then◌else◌, length, nat_le, take, Some, None, IfOk, IfErr, IfSome, OnOk, OnErr, slice_index_or};
+ghost use Rattle.std.specs.Prelude.{◌≡◌, ◌≢◌, ◌∷◌, ◌++◌, ◌+◌, ◌<◌, ◌≤◌, [], true, false, not, ◌-◌, cond, if◌then◌else◌, ℕ, List, bytes_eq, length, nat_le, take, Some, None, IfOk, IfErr, IfSome, OnOk, OnErr, slice_index_or};
+ghost use Rattle.std.specs.Vec.{vec_capacity, vec_len};
 ghost use Rattle.sq_rules.specs.Building.{place_of, with_acl, IsMade};
 ghost use Rattle.sq_rules.specs.Changes.{type_at, with_member_at, AreSlowOnes};
 ghost use Rattle.sq_rules.specs.Configurations.{are_shallow, are_unique, nesting_of, nestings, slow_ones};
 ghost use Rattle.sq_rules.specs.Drafts.{change_body, with_leaf, with_line};
 ghost use Rattle.sq_rules.specs.Limits.{most_acls, nesting_limit};
-ghost use Rattle.sq_rules.specs.Lookups.{begins_literal, has_blank, literal_name, lookup_name, looked_up, named_name, unmade_acls};
+ghost use Rattle.sq_rules.specs.Lookups.{asking_acl, begins_literal, either_acl, has_blank, literal_name, lookup_name, looked_up, named_acl, named_name, unmade_acls, values_acl};
+ghost use Rattle.sq_rules.specs.Names.{place_at};
 
 use crate::acl_types::AclType;
 use crate::configs::{Acl, Acls, Body, Term};
@@ -19,7 +21,7 @@ use crate::names::Names;
 use crate::nesting::{is_slow, nesting_of};
 use crate::parts::BuildFault;
 use crate::rechecks::{depths_with, renew, slow_with};
-use sq_base::{Copying, Listed, Ranges, Text, WantOfMemory};
+use sq_base::{Listed, Ranges, Text, WantOfMemory};
 use std::alloc::Global;
 use std::marker::Model;
 
@@ -28,6 +30,33 @@ fn counted(name: &Text) -> usize
     ensures { result ≡ (if has_blank name.now then 0 else 1) }
 {
     if has_blank(name.as_bytes()) { 0 } else { 1 }
+}
+
+// Makes room for one acl more and puts the place of its name, or nothing of both.
+fn make_room(
+    alloc: Global,
+    name: &Text,
+    places: &mut Names,
+    acls: &mut Vec<Acl>,
+    nestings: &mut Vec<u32>,
+    slow: &mut Vec<bool>,
+) -> Result<(), WantOfMemory>
+    requires { length acls.old.items < most_acls }
+    ensures acls { acls.new.items ≡ acls.old.items }
+    ensures nestings { nestings.new.items ≡ nestings.old.items }
+    ensures slow { slow.new.items ≡ slow.old.items }
+    ensures acls_room { OnOk result (vec_len acls.new < vec_capacity acls.new) }
+    ensures nestings_room { OnOk result (vec_len nestings.new < vec_capacity nestings.new) }
+    ensures slow_room { OnOk result (vec_len slow.new < vec_capacity slow.new) }
+    ensures place { OnOk result
+        ((q : List ℕ) → place_at places.new q
+        ≡ cond (bytes_eq name.now q) (Some (length acls.old.items)) (place_at places.old q)) }
+    ensures err { OnErr result (places.new ≡ places.old) }
+{
+    acls.reserve(1)?;
+    nestings.reserve(1)?;
+    slow.reserve(1)?;
+    places.put(alloc, name, acls.len() as u32)
 }
 
 /// Acls with names of their own, and of each its place by name, how deep it nests, and whether it asks
@@ -133,12 +162,14 @@ impl AclTable {
         };
         let asks = is_slow(self.slow.as_slice(), &body);
         let unmade = self.unmade + counted(&name);
-        let key = name.copy(alloc)?;
-        self.acls.reserve(1)?;
-        self.nestings.reserve(1)?;
-        self.slow.reserve(1)?;
-        let place = self.acls.len() as u32;
-        self.places.put(key, place)?;
+        make_room(
+            alloc,
+            &name,
+            &mut self.places,
+            &mut self.acls,
+            &mut self.nestings,
+            &mut self.slow,
+        )?;
         self.nestings.push_reserved(nesting);
         self.slow.push_reserved(asks);
         self.acls.push_reserved(Acl { name, body });
@@ -159,30 +190,101 @@ impl AclTable {
         self.unmade = self.unmade.saturating_sub(counted(&acl.name));
     }
 
-    // Two acls more, or none.
-    fn push_two(
+    // The first of the four acls of one of type `dst` more: its values.
+    fn push_values(
         &mut self,
         alloc: Global,
-        name: Text,
-        body: Body,
-        next_name: Text,
-        next_body: Body,
+        name: &Text,
+        values: Ranges,
     ) -> Result<(), WantOfMemory>
-        requires few { length self.old + 2 ≤ most_acls }
-        requires free { place_of self.old name ≡ None }
-        requires shallow { nat_le (nesting_of (nestings self.old) body) nesting_limit ≡ true }
-        requires next_free { place_of (self.old ++ (record { name = name; body = body }) ∷ [])
-            next_name ≡ None }
-        requires next_shallow { nat_le
-            (nesting_of (nestings (self.old ++ (record { name = name; body = body }) ∷ []))
-            next_body) nesting_limit ≡ true }
-        ensures ok { OnOk result
-            (self.new ≡ (self.old ++ (record { name = name; body = body }) ∷ [])
-            ++ (record { name = next_name; body = next_body }) ∷ []) }
+        requires few { length self.old < most_acls }
+        requires free { place_of self.old (literal_name name.now) ≡ None }
+        ensures ok { OnOk result (self.new ≡ self.old ++ values_acl name.now values ∷ []) }
         ensures err { OnErr result (self.new ≡ self.old) }
     {
-        self.push(alloc, name, body)?;
-        let pushed = self.push(alloc, next_name, next_body);
+        let literal = literal_name(alloc, name)?;
+        self.push(alloc, literal, Body::Leaf(Leaf::Dst(values)))
+    }
+
+    // The second: that which asks for the look-up.
+    fn push_asking(&mut self, alloc: Global, name: &Text) -> Result<(), WantOfMemory>
+        requires few { length self.old < most_acls }
+        requires free { place_of self.old (lookup_name name.now) ≡ None }
+        ensures ok { OnOk result (self.new ≡ self.old ++ asking_acl name.now ∷ []) }
+        ensures err { OnErr result (self.new ≡ self.old) }
+    {
+        let lookup = lookup_name(alloc, name)?;
+        self.push(alloc, lookup, asking(alloc))
+    }
+
+    // The third: the group over the look-up, where the acl of values stands at this place.
+    fn push_named(&mut self, alloc: Global, place: u32, name: &Text) -> Result<(), WantOfMemory>
+        requires few { length self.old < most_acls }
+        requires before { place < length self.old }
+        requires free { place_of self.old (named_name name.now) ≡ None }
+        requires shallow { nat_le (nesting_of (nestings self.old) (named_acl place name.now).body)
+            nesting_limit ≡ true }
+        ensures ok { OnOk result (self.new ≡ self.old ++ named_acl place name.now ∷ []) }
+        ensures err { OnErr result (self.new ≡ self.old) }
+    {
+        let named = named_name(alloc, name)?;
+        let body = named_body(alloc, place)?;
+        self.push(alloc, named, body)
+    }
+
+    // The last: the group over the values, which stand at this place, and over that group.
+    fn push_either(&mut self, alloc: Global, place: u32, name: Text) -> Result<(), WantOfMemory>
+        requires few { length self.old < most_acls }
+        requires before { place < length self.old }
+        requires free { place_of self.old name ≡ None }
+        requires shallow { nat_le (nesting_of (nestings self.old) (either_acl place name).body)
+            nesting_limit ≡ true }
+        ensures ok { OnOk result (self.new ≡ self.old ++ either_acl place name ∷ []) }
+        ensures err { OnErr result (self.new ≡ self.old) }
+    {
+        let body = either_body(alloc, place)?;
+        self.push(alloc, name, body)
+    }
+
+    // The first two of the four, or none.
+    fn push_leaves(
+        &mut self,
+        alloc: Global,
+        name: &Text,
+        values: Ranges,
+    ) -> Result<(), WantOfMemory>
+        requires few { length self.old + 2 ≤ most_acls }
+        requires literal { place_of self.old (literal_name name.now) ≡ None }
+        requires lookup { place_of self.old (lookup_name name.now) ≡ None }
+        ensures ok { OnOk result (self.new
+            ≡ (self.old ++ values_acl name.now values ∷ []) ++ asking_acl name.now ∷ []) }
+        ensures err { OnErr result (self.new ≡ self.old) }
+    {
+        self.push_values(alloc, name, values)?;
+        let pushed = self.push_asking(alloc, name);
+        if pushed.is_err() {
+            self.pop();
+        }
+        pushed
+    }
+
+    // The last two of the four, or none, where the acl of values stands at this place.
+    fn push_groups(&mut self, alloc: Global, place: u32, name: Text) -> Result<(), WantOfMemory>
+        requires few { length self.old + 2 ≤ most_acls }
+        requires before { place < length self.old }
+        requires named { place_of self.old (named_name name) ≡ None }
+        requires shallow { nat_le (nesting_of (nestings self.old) (named_acl place name).body)
+            nesting_limit ≡ true }
+        requires either { place_of (self.old ++ named_acl place name ∷ []) name ≡ None }
+        requires either_shallow { nat_le
+            (nesting_of (nestings (self.old ++ named_acl place name ∷ []))
+            (either_acl place name).body) nesting_limit ≡ true }
+        ensures ok { OnOk result (self.new
+            ≡ (self.old ++ named_acl place name ∷ []) ++ either_acl place name ∷ []) }
+        ensures err { OnErr result (self.new ≡ self.old) }
+    {
+        self.push_named(alloc, place, &name)?;
+        let pushed = self.push_either(alloc, place, name);
         if pushed.is_err() {
             self.pop();
         }
@@ -205,20 +307,21 @@ impl AclTable {
         ensures ok { OnOk result (self.new ≡ self.old ++ looked_up (length self.old) name values) }
         ensures err { OnErr result (self.new ≡ self.old) }
     {
-        let place = self.acls.len() as u32;
-        let literal = literal_name(alloc, &name)?;
-        let lookup = lookup_name(alloc, &name)?;
-        let named = named_name(alloc, &name)?;
-        let body = named_body(alloc, place)?;
-        let either = either_body(alloc, place)?;
-        let leaf = Body::Leaf(Leaf::Dst(values));
-        self.push_two(alloc, literal, leaf, lookup, asking(alloc))?;
-        let pushed = self.push_two(alloc, named, body, name, either);
+        let place = self.len() as u32;
+        self.push_leaves(alloc, &name, values)?;
+        let pushed = self.push_groups(alloc, place, name);
         if pushed.is_err() {
             self.pop();
             self.pop();
         }
         pushed
+    }
+
+    // Whether an acl of this body would nest deeper than it may.
+    fn is_too_deep(&self, body: &Body) -> bool
+        ensures { result ≡ not (nat_le (nesting_of (nestings self.now) body.now) nesting_limit) }
+    {
+        nesting_of(self.nestings.as_slice(), body).is_none()
     }
 
     /// The table with one acl more, which must not nest too deep.
@@ -228,7 +331,7 @@ impl AclTable {
         ensures made { IsMade result (with_acl self name body) }
         ensures longer { IfOk result (λ t. t ≡ self ++ (record { name = name; body = body }) ∷ []) }
     {
-        if nesting_of(self.nestings.as_slice(), &body).is_none() {
+        if self.is_too_deep(&body) {
             return Err(BuildFault::TooDeep(name));
         }
         self.push(alloc, name, body)?;

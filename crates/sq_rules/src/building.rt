@@ -1,19 +1,25 @@
 //! From names to places: the parts of a configuration over the tables of its classes and acls.
-ghost use Rattle.std.specs.Prelude.{◌≡◌, ◌≤◌, ◌∷◌, [], true, length, IfOk};
+ghost use Rattle.std.specs.Prelude.{◌≡◌, ◌≢◌, ◌≤◌, ◌∷◌, [], true, length, Ok, Err, IfOk, IfErr};
 ghost use Rattle.std.specs.List.{list_all};
-ghost use Rattle.sq_rules.specs.Building.{acls_made, body_made, classes_made, completed, each_made, rule_made, term_made, terms_made, IsMade};
-ghost use Rattle.sq_rules.specs.Configurations.{are_known, are_known_bodies, is_known_body, is_known_rule};
-ghost use Rattle.sq_rules.specs.Limits.{most_acls, most_classes};
-ghost use Rattle.sq_rules.specs.Lookups.{unmade, unmade_acls};
+ghost use Rattle.sq_rules.specs.Building.{acls_made, body_made, classes_made, completed, each_made, header_made, pools_made, rule_made, term_made, terms_made, IsMade};
+ghost use Rattle.sq_rules.specs.Configurations.{are_known, are_known_bodies, is_header, is_known_body, is_known_rule, is_lower, is_pool};
+ghost use Rattle.sq_rules.specs.Limits.{most_acls, most_classes, pool_limit};
+ghost use Rattle.sq_rules.specs.Lookups.{are_looked_up, unmade, unmade_acls};
+ghost use Rattle.sq_rules.specs.Tables.{rule_lists_made, tables_made};
 
 use crate::acl_table::AclTable;
 use crate::class_table::ClassTable;
 use crate::classes::{Class, Classes};
 use crate::configs::{Body, Lines, Rule, Rules, Term, Terms};
+use crate::fast_lists::{headers_of, pools_of};
 use crate::formats::with_arguments;
+use crate::headers::HeaderRules;
+use crate::lookups::are_looked_up;
 use crate::parts::{
-    AclParts, BodyPart, BuildFault, LineParts, RulePart, RuleParts, TermPart, TermParts,
+    AclParts, BodyPart, BuildFault, HeaderParts, LineParts, PoolParts, RulePart, RuleParts,
+    TermPart, TermParts,
 };
+use crate::pools::PoolList;
 use sq_base::{Listed, WantOfMemory};
 use std::alloc::Global;
 
@@ -146,4 +152,79 @@ pub fn rules_of(alloc: Global, acls: &AclTable, parts: RuleParts) -> Result<Rule
         rules.push(rule)?;
     }
     Ok(rules)
+}
+
+/// The tables over which the rest of a configuration is built.
+#[derive(Drop)]
+pub struct Tables {
+    pub classes: ClassTable,
+    pub acls: AclTable,
+}
+
+/// The tables of these classes and acls, where each acl of type `dst` stands with its look-up if names are looked up.
+pub fn tables_of(
+    alloc: Global,
+    dst_lookup: bool,
+    classes: Classes,
+    acls: AclParts,
+) -> Result<Tables, BuildFault>
+    requires few_classes { length classes ≤ most_classes }
+    requires all_acls { length acls ≤ most_acls }
+    ensures classes { IfOk result (λ t. classes_made [] classes ≡ Ok t.classes) }
+    ensures acls { IfOk result (λ t. acls_made t.classes [] acls ≡ Ok t.acls) }
+    ensures looked_up { IfOk result (λ t. are_looked_up dst_lookup t.classes t.acls ≡ true) }
+    ensures count { IfOk result (λ t. length t.classes ≡ length classes) }
+    ensures acl_count { IfOk result (λ t. length t.acls ≡ length acls) }
+    ensures unmade { IfOk result (λ t. unmade_acls t.acls ≡ unmade (λ a. a.name) acls) }
+    ensures known { IfOk result (λ t. are_known_bodies (length t.classes) 0 t.acls ≡ true) }
+    ensures err { IfErr result (λ e. e ≢ BuildFault.WantOfMemory
+        → tables_made dst_lookup classes acls ≡ Err e) }
+{
+    let classes = classes_of(alloc, classes)?;
+    let acls = acls_of(alloc, &classes, acls)?;
+    if !are_looked_up(dst_lookup, classes.as_slice(), acls.as_slice()) {
+        return Err(BuildFault::NoLookup);
+    }
+    Ok(Tables { classes, acls })
+}
+
+/// What names acls: the rules, the pools and the rules for fields.
+#[derive(Drop)]
+pub struct RuleLists {
+    pub rules: Rules,
+    pub pools: PoolList,
+    pub headers: HeaderRules,
+}
+
+/// The rules, the pools and the rules for fields over these acls.
+pub fn rule_lists_of(
+    alloc: Global,
+    acls: &AclTable,
+    rules: RuleParts,
+    pools: PoolParts,
+    headers: HeaderParts,
+) -> Result<RuleLists, BuildFault>
+    requires { length pools ≤ pool_limit }
+    ensures rules { IfOk result (λ l. each_made (rule_made acls.now) rules ≡ Ok l.rules) }
+    ensures rule_count { IfOk result (λ l. length l.rules ≡ length rules) }
+    ensures known { IfOk result
+        (λ l. list_all (is_known_rule (length acls.now)) l.rules ≡ true) }
+    ensures pools { IfOk result (λ l. pools_made acls.now 0 pools ≡ Ok l.pools) }
+    ensures pool_count { IfOk result (λ l. length l.pools ≡ length pools) }
+    ensures are_pools { IfOk result (λ l. list_all (is_pool acls.now) l.pools ≡ true) }
+    ensures headers { IfOk result (λ l. each_made (header_made acls.now) headers ≡ Ok l.headers) }
+    ensures header_count { IfOk result (λ l. length l.headers ≡ length headers) }
+    ensures are_headers { IfOk result (λ l. list_all (is_header acls.now) l.headers ≡ true) }
+    ensures lower { IfOk result (λ l. list_all is_lower l.headers ≡ true) }
+    ensures err { IfErr result (λ e. e ≢ BuildFault.WantOfMemory
+        → rule_lists_made acls.now rules pools headers ≡ Err e) }
+{
+    let rules = rules_of(alloc, acls, rules)?;
+    let pools = pools_of(alloc, acls, pools)?;
+    let headers = headers_of(alloc, acls, headers)?;
+    Ok(RuleLists {
+        rules,
+        pools,
+        headers,
+    })
 }

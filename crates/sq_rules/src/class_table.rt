@@ -6,7 +6,7 @@ ghost use Rattle.sq_rules.specs.Limits.{most_classes};
 
 use crate::classes::{Class, Classes};
 use crate::names::Names;
-use sq_base::{Copying, Listed, Text, WantOfMemory};
+use sq_base::{Listed, Text, WantOfMemory};
 use std::alloc::Global;
 use std::marker::Model;
 
@@ -64,10 +64,9 @@ impl ClassTable {
         ensures ok { OnOk result (self.new ≡ self.old ++ class ∷ []) }
         ensures err { OnErr result (self.new ≡ self.old) }
     {
-        let name = class.name.copy(alloc)?;
         self.classes.reserve(1)?;
         let place = self.classes.len() as u32;
-        self.places.put(name, place)?;
+        self.places.put(alloc, &class.name, place)?;
         self.classes.push_reserved(class);
         Ok(())
     }

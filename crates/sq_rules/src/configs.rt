@@ -5,12 +5,10 @@ ghost use Rattle.sq_rules.specs.Building.{built, AreWithin};
 ghost use Rattle.sq_rules.specs.Configurations.{IsConfiguration};
 ghost use Rattle.sq_rules.specs.Limits.{header_limit, initial_limit, most_acls, most_classes, pool_limit, rule_limit, text_limit};
 
-use crate::building::{acls_of, classes_of, rules_of};
+use crate::building::{rule_lists_of, tables_of};
 use crate::classes::{Class, Classes};
-use crate::fast_lists::{headers_of, pools_of};
 use crate::headers::{HeaderRule, HeaderRules};
 use crate::leaves::Leaf;
-use crate::lookups::are_looked_up;
 use crate::notices::{Notice, Notices};
 use crate::parts::{BuildFault, Parts};
 use crate::pools::{Pool, PoolList};
@@ -212,25 +210,19 @@ impl Config {
         ensures ok { IfOk result (λ c. built parts ≡ Ok c) }
         ensures err { IfErr result (λ e. e ≢ BuildFault.WantOfMemory → built parts ≡ Err e) }
     {
-        let classes = classes_of(alloc, parts.classes)?;
-        let acls = acls_of(alloc, &classes, parts.acls)?;
-        if !are_looked_up(parts.dst_lookup, classes.as_slice(), acls.as_slice()) {
-            return Err(BuildFault::NoLookup);
-        }
-        let rules = rules_of(alloc, &acls, parts.rules)?;
-        let pools = pools_of(alloc, &acls, parts.pools)?;
-        let headers = headers_of(alloc, &acls, parts.headers)?;
+        let tables = tables_of(alloc, parts.dst_lookup, parts.classes, parts.acls)?;
+        let lists = rule_lists_of(alloc, &tables.acls, parts.rules, parts.pools, parts.headers)?;
         Ok(Config {
             source: parts.source,
             dst_lookup: parts.dst_lookup,
-            classes: classes.into_classes(),
-            acls: acls.into_acls(),
-            rules,
-            pools,
+            classes: tables.classes.into_classes(),
+            acls: tables.acls.into_acls(),
+            rules: lists.rules,
+            pools: lists.pools,
             initial: parts.initial,
             port: parts.port,
             rewriter: parts.rewriter,
-            headers,
+            headers: lists.headers,
             notices: parts.notices,
         })
     }

@@ -2,7 +2,7 @@
 ghost use Rattle.std.specs.Prelude.{◌≡◌, [], cond, ℕ, List, None, Some, bytes_eq, OnOk, OnErr};
 ghost use Rattle.sq_rules.specs.Names.{place_at};
 
-use sq_base::{Text, WantOfMemory};
+use sq_base::{Copying, Text, WantOfMemory};
 use std::alloc::Global;
 use std::collections::BTreeMap;
 use std::marker::Model;
@@ -38,14 +38,15 @@ impl Names {
         self.places.get(name).copied()
     }
 
-    /// Puts the place of a name.
-    pub fn put(&mut self, name: Text, place: u32) -> Result<(), WantOfMemory>
+    /// Puts the place of a name, of which it keeps a copy.
+    pub fn put(&mut self, alloc: Global, name: &Text, place: u32) -> Result<(), WantOfMemory>
         ensures ok { OnOk result
             ((q : List ℕ) → place_at self.new q
-            ≡ cond (bytes_eq name q) (Some place) (place_at self.old q)) }
+            ≡ cond (bytes_eq name.now q) (Some place) (place_at self.old q)) }
         ensures err { OnErr result (self.new ≡ self.old) }
     {
-        match self.places.insert(name, place) {
+        let key = name.copy(alloc)?;
+        match self.places.insert(key, place) {
             Ok(_) => {}
             Err(_) => return Err(WantOfMemory),
         }

@@ -24,20 +24,19 @@ invariant_of-self-2 c =
     let new = c.push_reserved-3.new.self.items in
     let acl : Acl = record { name = c.args.name; body = c.args.body } in
     let more : new ≡ old ++ acl ∷ [] =
-    grind (arith, common_steps, c.push_reserved-3.ensures.items, c.reserve.ensures.items) in
+    grind (arith, common_steps, c.push_reserved-3.ensures.items, c.make_room.ensures.acls) in
     let free : place_from (λ (a : Acl). a.name) 0 old acl.name ≡ None = rw c.self.view_is c.requires.free in
     let deep : allowed (nesting_of c.self.inside.nestings.items acl.body) ≡ Some c.in-Some.nesting =
     grind (arith, common_steps, c.nesting_of.ensures, c.in-Some.is) in
     record {
-      places_are = known_push (λ a. a.name) c.self.inside.places c.put.new.self old new acl c.in_ok-key.key
-          c.len-place.result c.self.invariant.places_are c.in_ok-put.ensures.ok free (grind (arith, common_steps))
-          (grind (arith, common_steps)) more;
+      places_are = known_push (λ a. a.name) c.self.inside.places c.make_room.new.places old new acl c.args.name
+          (length old) c.self.invariant.places_are c.in_ok-make_room.ensures.place free refl refl more;
       depths_are = depths_push c.self.inside.nestings.items c.push_reserved.new.self.items old new acl c.in-Some.nesting
           c.self.invariant.depths_are
-          (grind (arith, common_steps, c.push_reserved.ensures.items, c.reserve-2.ensures.items)) deep more;
+          (grind (arith, common_steps, c.push_reserved.ensures.items, c.make_room.ensures.nestings)) deep more;
       slow_are = slow_push c.self.inside.slow.items c.push_reserved-2.new.self.items old new acl c.is_slow-asks.result
           c.self.invariant.slow_are
-          (grind (arith, common_steps, c.push_reserved-2.ensures.items, c.reserve-3.ensures.items))
+          (grind (arith, common_steps, c.push_reserved-2.ensures.items, c.make_room.ensures.slow))
           (grind (arith, common_steps, c.is_slow-asks.ensures)) more;
       count_is = unmade_acls_push old new acl c.self.inside.unmade c.counted.result
           (c.self.inside.unmade + c.counted.result) c.self.invariant.count_is

@@ -13,7 +13,7 @@ invariant_of-self-2 c =
     grind (arith, common_steps, c.push_reserved.ensures.items, c.reserve.ensures.items) in
     let free : place_from (λ (a : Class). a.name) 0 old c.args.class.name ≡ None =
     rw c.self.view_is c.requires.free in (
-      known_push (λ a. a.name) c.self.inside.places c.put.new.self old new c.args.class c.in_ok-name.name
+      known_push (λ a. a.name) c.self.inside.places c.put.new.self old new c.args.class c.class.inside.name
           c.len-place.result c.self.invariant.0 c.in_ok-put.ensures.ok free (grind (arith, common_steps))
           (grind (arith, common_steps)) more,
       own_push (λ a. a.name) old new c.args.class c.self.invariant.1 free more,
