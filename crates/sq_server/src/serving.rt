@@ -69,7 +69,8 @@ impl<N: NetTypes + Send, J: Journal + Send + Drop> ServerStart<N, J> {
         blanks: Blanks,
     ) -> Result<Served<N::L, J, K>, Unserved<N::L, J, K>>
         requires begun { B.faults ≡ J.faults self.journal }
-        requires first { B.first ≡ record { config = self.start.setup; offset = self.start.offset } }
+        requires first { B.first
+            ≡ record { config = self.start.setup; offset = self.start.offset } }
         requires empty { IfSome (J.history self.journal) (λ h. h ≡ []) }
         requires some { (0 < workers) × (workers ≤ 2 ^ 31) }
         requires asks { (blanks.asks.name ≡ B.asks.name) × (blanks.asks.parts ≡ B.asks.parts)

@@ -13,4 +13,6 @@ abbrev pub ghosts-serve_with-B-Before : goal.ghosts-serve_with-B-Before
 ghosts-serve_with-B-Before g a = record { faults = g.J.Journal.faults a.self.journal }
 
 abbrev pub ghosts-serve_with-B-DeskStart : goal.ghosts-serve_with-B-DeskStart
-ghosts-serve_with-B-DeskStart g a = record { first = record { config = a.self.start.setup; offset = a.self.start.offset } }
+ghosts-serve_with-B-DeskStart g a = record {
+  first = record { config = a.self.start.setup; offset = a.self.start.offset };
+}
