@@ -1,12 +1,12 @@
 //! A server over a net in memory, from its words to what came of it. What fails ends the process.
-use crate::server::devices::{Lone, Orders};
+use crate::server::devices::Orders;
 use crate::server::nets::{Client, Named, Origin, links, names, net, origins, program};
 use crate::server::spawners::PairedNet;
 use sq_base::Text;
 use sq_cache::HashSeed;
 use sq_journal::print_entry;
 use sq_journal_writers::MemJournal;
-use sq_outside_mem::{MemName, MemSink, Wire};
+use sq_outside_mem::{MemFile, MemFiles, MemName, MemSink, Wire};
 use sq_proxy::{Platform, proxy};
 use std::alloc::Global;
 use std::process::Abort;
@@ -57,6 +57,18 @@ fn words(rt: &impl Abort, alloc: Global, workers: &[u8]) -> Vec<Text> {
         words.push(word).expect(rt, "a word");
     }
     words
+}
+
+// The file `c` with this text.
+fn files(rt: &impl Abort, alloc: Global, conf: &[u8]) -> MemFiles {
+    let mut files = Vec::new(alloc);
+    let file = MemFile {
+        name: Text::from_slice(alloc, b"c").expect(rt, "a name"),
+        text: Text::from_slice(alloc, conf).expect(rt, "a text"),
+        fails: Vec::new(alloc),
+    };
+    files.push(file).expect(rt, "a file");
+    MemFiles::new(alloc, files, 4096, 1, Vec::new(alloc)).expect(rt, "the files")
 }
 
 // The lines of a journal.
@@ -133,7 +145,7 @@ fn run_over<R: Threads + Wait + Sync + Abort>(
     let fails = Vec::from_slice(alloc, job.fails).expect(rt, "the notes that fail");
     let mut out = MemSink::new(alloc, 4096, 4096, Vec::new(alloc)).expect(rt, "an output");
     let journal = MemJournal::new(alloc, 100, fails, Vec::new(alloc)).expect(rt, "a journal");
-    let mut files = Lone::new(job.conf);
+    let mut files = files(rt, alloc, job.conf);
     let mut control = Orders::new(wires);
     let platform = Platform {
         rt,
