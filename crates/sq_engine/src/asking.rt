@@ -1,8 +1,11 @@
 //! A request arrives.
-ghost use Rattle.std.specs.Prelude.{◌≡◌, ℕ, List, max, true, is_some, IfOk, OnOk, OnErr};
+ghost use Rattle.std.specs.Prelude.{◌≡◌, ◌<◌, ◌++◌, ◌∷◌, [], ℕ, suc, List, max, true, None, Some, is_some, IfOk, OnOk, OnErr};
 ghost use Rattle.sq_base.specs.Targets.{target_of};
 ghost use Rattle.sq_base.specs.declared.requests.Field.{Field};
 ghost use Rattle.sq_rules.specs.Sights.{asked_request, unversioned};
+ghost use Rattle.sq_machine.specs.Limits.{last_number};
+ghost use Rattle.sq_checks.specs.Conns.{check_in, client_in};
+ghost use Rattle.sq_checks.specs.OpenChecks.{all_before, begun_parts, row, rows_of};
 ghost use Rattle.sq_machine.specs.declared.entries.Event.TheVariants as event;
 ghost use Rattle.sq_machine.specs.declared.entries.Told.TheVariants as told;
 ghost use Rattle.sq_model_state.specs.Answers.{ask_answer, asked_in};
@@ -11,16 +14,63 @@ ghost use Rattle.sq_model_state.specs.States.{IsSame};
 ghost use Rattle.sq_engine.specs.Begun.{HasBegun};
 ghost use Rattle.sq_engine.specs.EngineViews.{state_of};
 ghost use Rattle.sq_engine.specs.Promised.{IsPromised};
-ghost use Rattle.sq_engine.specs.Tellings.{IsTold};
+ghost use Rattle.sq_engine.specs.Tellings.{IsAlwaysTold, IsTold};
 
+use crate::current::Current;
 use crate::engines::Engine;
-use sq_base::{CheckNo, ConnNo, Moment, Request, WantOfMemory};
+use sq_base::{CheckNo, ConnNo, EpochNo, Moment, Request, WantOfMemory};
+use sq_checks::OpenChecks;
 use sq_machine::{LAST_NUMBER, Refusal, later};
 use sq_model_state::minute_of_week;
-use sq_rules::Sight;
+use sq_rules::{Peer, Sight};
 use std::alloc::Global;
 
+// Begins a check in the epoch of a configuration, under a number above all that are open.
+fn begin(
+    checks: &mut OpenChecks,
+    setup: &mut Current,
+    alloc: Global,
+    number: CheckNo,
+    conn: ConnNo,
+    epoch: EpochNo,
+    sight: Sight,
+) -> Result<(), WantOfMemory>
+    requires { all_before number (rows_of checks.old) ≡ true }
+    ensures list { OnOk result
+        (checks.new ≡ checks.old ++ (number, begun_parts conn epoch setup.old sight) ∷ []) }
+    ensures rows { OnOk result
+        (rows_of checks.new
+        ≡ rows_of checks.old ++ row number (begun_parts conn epoch setup.old sight) ∷ []) }
+    ensures same { setup.new ≡ setup.old }
+    ensures err { OnErr result (checks.new ≡ checks.old) }
+{
+    let open = setup.begun(alloc, conn, epoch, sight)?;
+    checks.begin(number, open)
+}
+
 impl Engine {
+    // The client of a connection on which a check may begin, and the number that it gets.
+    fn admitted(&self, conn: ConnNo) -> Result<(Peer, u64), Refusal>
+        ensures told { IsAlwaysTold (λ r. told.Check r.1) (ask_answer (state_of self.now) conn)
+            result }
+        ensures client { IfOk result (λ r. client_in self.now.conns conn ≡ Some r.0) }
+        ensures free { OnOk result (check_in self.now.conns conn ≡ None) }
+        ensures number { IfOk result (λ r. r.1 ≡ suc self.now.asks) }
+        ensures few { IfOk result (λ r. r.1 < last_number) }
+    {
+        let Some(peer) = self.conns.peer(conn) else {
+            return Err(Refusal::UnknownConn(conn));
+        };
+        if let Some(check) = self.conns.check(conn) {
+            return Err(Refusal::CheckOpen(check));
+        }
+        let number = self.asks + 1;
+        if number >= LAST_NUMBER {
+            return Err(Refusal::Spent(number));
+        }
+        Ok((peer, number))
+    }
+
     // A request arrives, by the state alone.
     fn ask_on(
         &mut self,
@@ -40,16 +90,7 @@ impl Engine {
         ensures begun { IfOk result
             (λ n. HasBegun n self.old.setup request self.old.checks self.new.checks) }
     {
-        let Some(peer) = self.conns.peer(conn) else {
-            return Err(Refusal::UnknownConn(conn));
-        };
-        if let Some(check) = self.conns.check(conn) {
-            return Err(Refusal::CheckOpen(check));
-        }
-        let number = self.asks + 1;
-        if number >= LAST_NUMBER {
-            return Err(Refusal::Spent(number));
-        }
+        let (peer, number) = self.admitted(conn)?;
         // For the proof: the numbers ascend.
         let _len = self.checks.len();
         let check = CheckNo(number);
@@ -62,11 +103,15 @@ impl Engine {
             minute: minute_of_week(moment, self.offset),
             conns: self.conns.of(peer.addr),
         };
-        let open = match self.setup.begun(alloc, conn, epoch, sight) {
-            Ok(open) => open,
-            Err(WantOfMemory) => return Err(Refusal::WantOfMemory),
-        };
-        match self.checks.begin(check, open) {
+        match begin(
+            &mut self.checks,
+            &mut self.setup,
+            alloc,
+            check,
+            conn,
+            epoch,
+            sight,
+        ) {
             Ok(()) => {}
             Err(WantOfMemory) => return Err(Refusal::WantOfMemory),
         }

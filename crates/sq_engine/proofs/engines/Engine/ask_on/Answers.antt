@@ -1,7 +1,7 @@
 use Rattle.std.proofs.Common.{◌≡◌, ◌∙◌, ◌+◌, ◌^◌, ◌<◌, ◌++◌, ◌∷◌, [], suc, None, ap, max, refl, sym, subst, arith, rules, true}
 use Rattle.sq_machine.specs.Limits.{last_number}
 use Rattle.sq_rules.specs.declared.sights.Sight.{Sight}
-use Rattle.sq_checks.specs.Conns.{check_in}
+use Rattle.sq_checks.specs.Conns.{check_in, client_in}
 use Rattle.sq_checks.specs.OpenChecks.{all_before, begun_parts, row, rows_of}
 use Rattle.sq_epochs.specs.LiveEpochs.{after_began, checks_at}
 use Rattle.sq_model_state.specs.Answers.{asked_in}
@@ -41,38 +41,39 @@ invariant_of-self-2 c =
       offset = c.self.inside.offset;
       latest = c.self.inside.latest;
     } in
-    let n = c.self.inside.asks + 1 in
-    let one : n ≡ suc v.asks = omega arith in
-    let few : n < last_number = omega arith in
-    let free : check_in v.conns c.args.conn ≡ None = search rules in
+    let n = c.in_ok-peer.number in
+    let one : n ≡ suc v.asks = c.in_ok-peer.ensures.number ∙ ap (λ z. suc z.asks) (sym c.self.view_is) in
+    let few : n < last_number = c.in_ok-peer.ensures.few in
+    let free : check_in v.conns c.args.conn ≡ None = ap (λ z. check_in z.conns c.args.conn) c.self.view_is
+    ∙ c.in_ok-peer.ensures.free in
     let sight : Sight = record {
       request = c.args.request;
-      addr = c.in-Some.peer.addr;
-      port = c.in-Some.peer.port;
+      addr = c.in_ok-peer.peer.addr;
+      port = c.in_ok-peer.peer.port;
       minute = c.minute_of_week.result;
       conns = c.of.result;
     } in
-    let parts : c.in-Ok.open ≡ begun_parts c.args.conn v.epochs.current v.setup sight = c.in-Ok.ensures.ok
-    ∙ ap (λ e. begun_parts c.args.conn e v.setup sight) c.current-epoch.ensures in
-    let k : Begun v c.args.conn n sight c.set_check.new.self c.begin.new.self = record {
+    let k : Begun v c.args.conn n sight c.set_check.new.self c.begin.new.checks = record {
       number_is = one;
       few = few;
       free = free;
-      list = c.in-Ok-begin.ensures.list ∙ ap (λ z. v.checks ++ (n, z) ∷ []) parts;
-      rows = c.in-Ok-begin.ensures.rows ∙ ap (λ z. rows_of v.checks ++ row n z ∷ []) parts;
+      list = c.in-Ok.ensures.list
+          ∙ ap (λ e. v.checks ++ (n, begun_parts c.args.conn e v.setup sight) ∷ []) c.current-epoch.ensures;
+      rows = c.in-Ok.ensures.rows
+          ∙ ap (λ e. rows_of v.checks ++ row n (begun_parts c.args.conn e v.setup sight) ∷ []) c.current-epoch.ensures;
       marks = c.set_check.ensures.checks;
     } in
     let is : c.began.new.self ≡ after_began v.epochs.current v.epochs = c.began.ensures
     ∙ ap (λ z. after_began z v.epochs) c.current-epoch.ensures in
     subst (λ z. IsEngine (record v {
       conns = c.set_check.new.self;
-      checks = c.begin.new.self;
+      checks = c.begin.new.checks;
       asks = n;
       epochs = c.began.new.self;
       setup = z;
       latest = c.later-moment.result;
     })) (sym c.in-Ok.ensures.same)
-    (begun_engine v c.args.conn n c.later-moment.result sight c.set_check.new.self c.begin.new.self c.began.new.self
+    (begun_engine v c.args.conn n c.later-moment.result sight c.set_check.new.self c.begin.new.checks c.began.new.self
     c.self.invariant k is)
 
 pub returns-clause-ok : goal.returns-clause-ok
@@ -87,25 +88,26 @@ returns-clause-ok c = λ method target fields e.
       offset = c.self.inside.offset;
       latest = c.self.inside.latest;
     } in
-    let n = c.self.inside.asks + 1 in
-    let one : n ≡ suc v.asks = omega arith in
-    let few : n < last_number = omega arith in
-    let free : check_in v.conns c.args.conn ≡ None = search rules in
+    let n = c.in_ok-peer.number in
+    let one : n ≡ suc v.asks = c.in_ok-peer.ensures.number ∙ ap (λ z. suc z.asks) (sym c.self.view_is) in
+    let few : n < last_number = c.in_ok-peer.ensures.few in
+    let free : check_in v.conns c.args.conn ≡ None = ap (λ z. check_in z.conns c.args.conn) c.self.view_is
+    ∙ c.in_ok-peer.ensures.free in
     let sight : Sight = record {
       request = c.args.request;
-      addr = c.in-Some.peer.addr;
-      port = c.in-Some.peer.port;
+      addr = c.in_ok-peer.peer.addr;
+      port = c.in_ok-peer.peer.port;
       minute = c.minute_of_week.result;
       conns = c.of.result;
     } in
-    let parts : c.in-Ok.open ≡ begun_parts c.args.conn v.epochs.current v.setup sight = c.in-Ok.ensures.ok
-    ∙ ap (λ e. begun_parts c.args.conn e v.setup sight) c.current-epoch.ensures in
-    let k : Begun v c.args.conn n sight c.set_check.new.self c.begin.new.self = record {
+    let k : Begun v c.args.conn n sight c.set_check.new.self c.begin.new.checks = record {
       number_is = one;
       few = few;
       free = free;
-      list = c.in-Ok-begin.ensures.list ∙ ap (λ z. v.checks ++ (n, z) ∷ []) parts;
-      rows = c.in-Ok-begin.ensures.rows ∙ ap (λ z. rows_of v.checks ++ row n z ∷ []) parts;
+      list = c.in-Ok.ensures.list
+          ∙ ap (λ e. v.checks ++ (n, begun_parts c.args.conn e v.setup sight) ∷ []) c.current-epoch.ensures;
+      rows = c.in-Ok.ensures.rows
+          ∙ ap (λ e. rows_of v.checks ++ row n (begun_parts c.args.conn e v.setup sight) ∷ []) c.current-epoch.ensures;
       marks = c.set_check.ensures.checks;
     } in
     let is : c.began.new.self ≡ after_began v.epochs.current v.epochs = c.began.ensures
@@ -113,7 +115,7 @@ returns-clause-ok c = λ method target fields e.
     subst (λ z. IsSame (state_of
     (record v {
       conns = c.set_check.new.self;
-      checks = c.begin.new.self;
+      checks = c.begin.new.checks;
       asks = n;
       epochs = c.began.new.self;
       latest = c.later-moment.result;
@@ -123,14 +125,15 @@ returns-clause-ok c = λ method target fields e.
     (subst (λ z. IsSame (state_of
     (record v {
       conns = c.set_check.new.self;
-      checks = c.begin.new.self;
+      checks = c.begin.new.checks;
       asks = n;
       epochs = c.began.new.self;
       latest = c.later-moment.result;
     }))
     (after_ask (asked_in (state_of v) z c.args.conn method target fields) z (state_of v))) c.later-moment.ensures
-    (begun_same v c.args.conn n c.later-moment.result method target fields c.in-Some.peer sight c.set_check.new.self
-    c.begin.new.self c.began.new.self k is (sym c.in-Some.ensures) e refl refl
+    (begun_same v c.args.conn n c.later-moment.result method target fields c.in_ok-peer.peer sight c.set_check.new.self
+    c.begin.new.checks c.began.new.self k is
+    (ap (λ z. client_in z.conns c.args.conn) c.self.view_is ∙ c.in_ok-peer.ensures.client) e refl refl
     c.minute_of_week.ensures c.of.ensures c.set_check.ensures.clients c.set_check.ensures.len
     c.set_check.ensures.counts))
 
@@ -146,21 +149,20 @@ returns-clause-begun c =
       offset = c.self.inside.offset;
       latest = c.self.inside.latest;
     } in
-    let n = c.self.inside.asks + 1 in
+    let n = c.in_ok-peer.number in
     let sight : Sight = record {
       request = c.args.request;
-      addr = c.in-Some.peer.addr;
-      port = c.in-Some.peer.port;
+      addr = c.in_ok-peer.peer.addr;
+      port = c.in_ok-peer.peer.port;
       minute = c.minute_of_week.result;
       conns = c.of.result;
     } in
-    let parts : c.in-Ok.open ≡ begun_parts c.args.conn v.epochs.current v.setup sight = c.in-Ok.ensures.ok
-    ∙ ap (λ e. begun_parts c.args.conn e v.setup sight) c.current-epoch.ensures in
-    let list : c.begin.new.self ≡ v.checks ++ (n, begun_parts c.args.conn v.epochs.current v.setup sight) ∷ [] =
-    c.in-Ok-begin.ensures.list ∙ ap (λ z. v.checks ++ (n, z) ∷ []) parts in
-    let one : suc v.asks ≡ n = omega arith in
+    let list : c.begin.new.checks ≡ v.checks ++ (n, begun_parts c.args.conn v.epochs.current v.setup sight) ∷ [] =
+    c.in-Ok.ensures.list
+    ∙ ap (λ e. v.checks ++ (n, begun_parts c.args.conn e v.setup sight) ∷ []) c.current-epoch.ensures in
+    let one : suc v.asks ≡ n = ap (λ z. suc z.asks) c.self.view_is ∙ sym c.in_ok-peer.ensures.number in
     let above : all_before n (rows_of v.checks) ≡ true =
     subst (λ z. all_before z (rows_of v.checks) ≡ true) one c.self.invariant.asked.given in
-    subst (λ z. HasBegun n z.setup c.args.request z.checks c.begin.new.self) c.self.view_is
+    subst (λ z. HasBegun n z.setup c.args.request z.checks c.begin.new.checks) c.self.view_is
     (subst (HasBegun n v.setup c.args.request v.checks) (sym list)
     (has_begun n c.args.conn v.epochs.current v.setup sight c.args.request v.checks above refl))
