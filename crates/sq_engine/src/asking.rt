@@ -27,9 +27,9 @@ use std::alloc::Global;
 
 // Begins a check in the epoch of a configuration, under a number above all that are open.
 fn begin(
+    alloc: Global,
     checks: &mut OpenChecks,
     setup: &mut Current,
-    alloc: Global,
     number: CheckNo,
     conn: ConnNo,
     epoch: EpochNo,
@@ -104,9 +104,9 @@ impl Engine {
             conns: self.conns.of(peer.addr),
         };
         match begin(
+            alloc,
             &mut self.checks,
             &mut self.setup,
-            alloc,
             check,
             conn,
             epoch,
