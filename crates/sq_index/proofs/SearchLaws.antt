@@ -1,9 +1,10 @@
 -- That of values in order the last one that begins up to what is looked for decides.
-use Rattle.std.proofs.Common.{◌≡◌, ℕ, ◌-◌, ◌<◌, ◌≤◌, List, ◌++◌, ◌∷◌, [], length, get_or, Bool, true, false, ◌&&◌, ltb, arith, inl, inr, sym, ◌∙◌, refl, subst}
+use mathlib.Core.Bool.{or-false}
+use Rattle.std.proofs.Common.{◌≡◌, ℕ, ◌+◌, ◌-◌, ◌<◌, ◌≤◌, List, ◌++◌, ◌∷◌, [], length, get_or, take, Bool, true, false, ◌&&◌, ◌||◌, ap, ltb, arith, inl, inr, sym, ◌∙◌, refl, subst}
 use Rattle.std.proofs.lemmas.Bool.{and_from, and_left, and_right, both_ways, cases_Bool, cases_eq, cases_lt, le-ltb, lt-ltb}
 use Rattle.std.proofs.lemmas.List.{get_or_append_left, get_or_push, length-append}
 use Rattle.std.proofs.lemmas.List.Elements.{All-from_get_or}
-use Rattle.std.proofs.lemmas.List.Folds.{list_any_at, list_any_none}
+use Rattle.std.proofs.lemmas.List.Folds.{list_any-append, list_any_at, list_any_more, list_any_none}
 use Rattle.std.specs.List.{list_any, All, AllPairs}
 
 -- a test that cannot hold fails
@@ -61,3 +62,18 @@ pairs_push R xs y pairs all = λ i j d earlier within.
           subst (λ a. R a (get_or (xs ++ y ∷ []) j d)) (sym front)
           (subst (λ b. R (get_or xs i d) b) (sym (get_or_push xs y d j end)) (all i d inside))
     ]
+
+-- one more of each list, of which both pass or neither does, as at a step of a loop
+pub both_more : {X Y : Type 0} (p : X → Bool) (q : Y → Bool) (xs : List X) (x : X) (ys : List Y) (i : ℕ) (y : Y)
+    → i < length ys → y ≡ get_or ys i y → p x ≡ q y → list_any p xs ≡ list_any q (take i ys)
+    → list_any p (xs ++ x ∷ []) ≡ list_any q (take (i + 1) ys)
+both_more p q xs x ys i y within is same so_far =
+    list_any-append p xs (x ∷ []) ∙ ap (λ b. list_any p xs || b) (or-false (p x)) ∙ ap (λ a. a || p x) so_far
+    ∙ ap (λ b. list_any q (take i ys) || b) (same ∙ ap q is) ∙ sym (list_any_more q ys i y within)
+
+-- one more of the second list, which does not pass
+pub none_more : {Y : Type 0} (q : Y → Bool) (ys : List Y) (i : ℕ) (y : Y) (b : Bool) → i < length ys
+    → y ≡ get_or ys i y → false ≡ q y → b ≡ list_any q (take i ys) → b ≡ list_any q (take (i + 1) ys)
+none_more q ys i y b within is fails so_far =
+    so_far ∙ sym (or-false (list_any q (take i ys))) ∙ ap (λ c. list_any q (take i ys) || c) (fails ∙ ap q is)
+    ∙ sym (list_any_more q ys i y within)
