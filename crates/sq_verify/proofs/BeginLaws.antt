@@ -1,5 +1,5 @@
 -- A journal from its first line on.
-use Rattle.std.proofs.Common.{◌≡◌, ℕ, ◌+◌, List, [], ◌∷◌, length, Bool, true, false, ◌&&◌, nat_le, if◌then◌else◌, bytes_eq, codes, Option, Some, None, IfSome, Result, Ok, Err, refl, sym, ap, subst, ◌∙◌, arith}
+use Rattle.std.proofs.Common.{◌≡◌, ℕ, ℤ, inl, inr, ◌+◌, List, [], ◌∷◌, length, Bool, true, false, ◌&&◌, nat_le, if◌then◌else◌, bytes_eq, codes, Option, Some, None, IfSome, Result, Ok, Err, refl, sym, ap, subst, ◌∙◌, arith}
 use Rattle.std.specs.Io.KnownBytes.{IsAtEnd, prepend_known}
 use Rattle.std.proofs.lemmas.Bool.{and_parts}
 use Rattle.sq_outside.specs.SourceLines.{FindsWithin, SourceLine, is_within, lines}
@@ -23,7 +23,7 @@ use Rattle.sq_verify.specs.declared.versions.Version.{Version}
 use Rattle.sq_verify.specs.declared.versions.Version.TheVariants as version
 use Rattle.sq_verify.specs.JournalLines.{is_version_line, line_in, line_limit, noted_in, text_in}
 use Rattle.sq_verify.specs.Judging.{Judged, begun_line, epochs_of, found_at, go_on, judged, judged_behind, judged_first, judged_lines, judged_one, judged_two, line_number, named_from, named_in, stated_first}
-use Rattle.sq_verify.specs.Promised.{AreAhead, BeginsLine, Comes, Compares, JudgesOver, ReachesEnd, Stands}
+use Rattle.sq_verify.specs.Promised.{AreAhead, Begins, BeginsLine, Comes, Compares, IsUnread, JudgeHasCauses, JudgesOver, LacksLine, ReachesEnd, Stands}
 use Rattle.sq_verify.proofs.FirstLaws.{epochs_good, stated_begins}
 use Rattle.sq_verify.proofs.TextLaws.{eq_of}
 
@@ -31,7 +31,7 @@ use Rattle.sq_verify.proofs.TextLaws.{eq_of}
 
 -- the machine has begun, and the line is that of its entry
 pub begin_ok : {M : Type 0} (machine : M → ScriptView) (config : Configuration) (v : Version) (line : List ℕ) (now : ℕ)
-    (offset : _) (m : M)
+    (offset : ℤ) (m : M)
     → ((configs : List Configuration) → EachOf IsConfiguration configs → config_of configs 1 ≡ Some config
     → Is (machine m) configs (first_history now offset))
     → bytes_eq (text_in v 1 1 (entry_at now (Begin offset) (told.Epoch 1))) line ≡ true
@@ -45,7 +45,7 @@ begin_ok machine config v line now offset m begun same =
 
 -- the line is another, or memory was wanting
 pub begin_err : {M : Type 0} (machine : M → ScriptView) (config : Configuration) (v : Version) (line : List ℕ) (now : ℕ)
-    (offset : _) (stop : Halt)
+    (offset : ℤ) (stop : Halt)
     → Compares (text_in v 1 1 (entry_at now (Begin offset) (told.Epoch 1))) line (Err stop)
     → BeginsLine machine config (begun_line v line now (Begin offset)) (Err stop)
 begin_err machine config v line now offset halt.NoLine c = absurd c
@@ -55,11 +55,35 @@ begin_err machine config v line now offset (halt.Differs other) c =
     ∙ ap (λ (t : List ℕ). Err (halt.Differs t)) (sym c.0)
 begin_err machine config v line now offset halt.WantOfMemory c = tt
 
+-- the event of the first entry
+
 -- another event does not begin a journal
-pub begun_none : (v : Version) (line : List ℕ) (now : ℕ) (event : Event) → is_begin event ≡ false
+begun_none : (v : Version) (line : List ℕ) (now : ℕ) (event : Event) → is_begin event ≡ false
     → begun_line v line now event ≡ Err halt.NoLine
 begun_none v line now (Begin offset) e = absurd (cc)
 begun_none v line now event e = refl
+
+pub begins_at : (v : Version) (line : List ℕ) (e : Noted) (offset : ℤ) → noted_in v line ≡ Some e
+    → e.event ≡ Begin offset → stated_first v line (noted_in v line) ≡ begun_line v line e.moment (Begin offset)
+begins_at v line e offset is same = ap (stated_first v line) is ∙ ap (begun_line v line e.moment) same
+
+pub begins_not : (v : Version) (line : List ℕ) (e : Noted) → noted_in v line ≡ Some e → is_begin e.event ≡ false
+    → stated_first v line (noted_in v line) ≡ Err halt.NoLine
+begins_not v line e is other = ap (stated_first v line) is ∙ begun_none v line e.moment e.event other
+
+-- the machine began, or was not to, by the line
+pub begins_by : {M : Type 0} (machine : M → ScriptView) (config : Configuration) (v : Version) (line : List ℕ)
+    (step : Result History Halt) (at : ℕ × ℤ) (result : Result M Halt) → Begins v line step (Ok at)
+    → BeginsLine machine config (begun_line v line at.0 (Begin at.1)) result → BeginsLine machine config step result
+begins_by machine config v line step at result e b = subst (λ (s : Result History Halt). BeginsLine machine config s
+    result) (sym e) b
+
+pub begins_no_more : {M : Type 0} (machine : M → ScriptView) (config : Configuration) (v : Version) (line : List ℕ)
+    (step : Result History Halt) (stop : Halt) → Begins v line step (Err stop)
+    → BeginsLine machine config step (Err stop)
+begins_no_more machine config v line step halt.NoLine b = b
+begins_no_more machine config v line step (halt.Differs text) b = absurd b
+begins_no_more machine config v line step halt.WantOfMemory b = tt
 
 -- what follows the first line
 
@@ -117,16 +141,6 @@ first_halted machine config v (Some bytes) line place stop b =
 
 -- reading the first entry's line
 
--- there is none
-pub first_missing : (v : Version) (config : Configuration) (left after : Option (List ℕ)) (line : List ℕ) (place : ℕ)
-    → FindsWithin (line_limit v) place left after line found.End
-    → IfSome left (λ bytes. Comes (judged_first v (epochs_of v config (lines bytes)) place (lines bytes))
-    (finding.Script (line_number v 0)))
-first_missing v config None after line place f = tt
-first_missing v config (Some bytes) after line place f =
-    subst (λ (b : List ℕ). Comes (judged_first v (epochs_of v config (lines b)) place (lines b))
-    (finding.Script (line_number v 0))) (sym f.0) refl
-
 -- it cannot be read
 faulty_lines : (v : Version) (configs : List Configuration) (l : SourceLine) (ls : List SourceLine) (place : ℕ)
     → is_within (line_limit v) place l ≡ false
@@ -135,15 +149,53 @@ faulty_lines v configs l ls place faulty =
     ap (λ b. (go_on v [] l.bytes (if b then stated_first v l.bytes (noted_in v l.bytes) else Err halt.NoLine)
     (λ t. judged_lines v configs t (place + length l.bytes + 1) ls)).found) faulty
 
-pub first_faulty : (v : Version) (config : Configuration) (left after : Option (List ℕ)) (line : List ℕ) (place : ℕ)
+pub missing_lacks : (v : Version) (left after : Option (List ℕ)) (line : List ℕ) (place : ℕ)
+    → FindsWithin (line_limit v) place left after line found.End
+    → LacksLine v place left (finding.Script (line_number v 0))
+missing_lacks v None after line place f = (refl, tt)
+missing_lacks v (Some bytes) after line place f = (refl, inl f.0)
+
+pub faulty_lacks : (v : Version) (left after : Option (List ℕ)) (line : List ℕ) (place : ℕ)
     → FindsWithin (line_limit v) place left after line found.Faulty
-    → IfSome left (λ bytes. Comes (judged_first v (epochs_of v config (lines bytes)) place (lines bytes))
-    (finding.Script (line_number v 0)))
-first_faulty v config None after line place f = tt
-first_faulty v config (Some bytes) after line place f =
+    → LacksLine v place left (finding.Script (line_number v 0))
+faulty_lacks v None after line place f = (refl, tt)
+faulty_lacks v (Some bytes) after line place f = (refl, inr f)
+
+first_unread : (v : Version) (config : Configuration) (bytes : List ℕ) (place : ℕ) → IsUnread v place bytes
+    → Comes (judged_first v (epochs_of v config (lines bytes)) place (lines bytes)) (finding.Script (line_number v 0))
+first_unread v config bytes place (inl e) =
+    subst (λ (b : List ℕ). Comes (judged_first v (epochs_of v config (lines b)) place (lines b))
+    (finding.Script (line_number v 0))) (sym e) refl
+first_unread v config bytes place (inr f) =
     subst (λ (ls : List SourceLine). Comes (judged_first v (epochs_of v config ls) place ls)
     (finding.Script (line_number v 0))) (sym f.first)
     (faulty_lines v (epochs_of v config (f.line ∷ f.rest)) f.line f.rest place f.faulty)
+
+-- without its line there is no first entry
+pub first_lacking : (v : Version) (config : Configuration) (left : Option (List ℕ)) (place : ℕ) (result : Finding)
+    → LacksLine v place left result
+    → IfSome left (λ bytes. Comes (judged_first v (epochs_of v config (lines bytes)) place (lines bytes)) result)
+first_lacking v config None place result l = tt
+first_lacking v config (Some bytes) place (finding.Verified count) l = absurd l
+first_lacking v config (Some bytes) place (finding.Script n) l =
+    subst (λ (k : ℕ). Comes (judged_first v (epochs_of v config (lines bytes)) place (lines bytes)) (finding.Script k))
+    (sym l.0) (first_unread v config bytes place l.1)
+first_lacking v config (Some bytes) place (finding.Differs n machine journal) l = absurd l
+first_lacking v config (Some bytes) place finding.ReadFault l = tt
+first_lacking v config (Some bytes) place finding.WantOfMemory l = tt
+
+pub lacking_reaches : (v : Version) (place : ℕ) (left old new : Option (List ℕ)) (result : Finding)
+    → LacksLine v place left result → ReachesEnd result old new
+lacking_reaches v place left old new (finding.Verified count) l = absurd l
+lacking_reaches v place left old new (finding.Script n) l = tt
+lacking_reaches v place left old new (finding.Differs n machine journal) l = tt
+lacking_reaches v place left old new finding.ReadFault l = tt
+lacking_reaches v place left old new finding.WantOfMemory l = tt
+
+-- the count stayed before what was judged then
+pub causes_behind : (before mid now : ℕ) (result : Finding) → mid ≡ before → JudgeHasCauses mid now result
+    → JudgeHasCauses before now result
+causes_behind before mid now result same c = subst (λ (n : ℕ). JudgeHasCauses n now result) same c
 
 -- it can
 readable_line : (v : Version) (configs : List Configuration) (line : List ℕ) (ls : List SourceLine) (place : ℕ)
@@ -203,23 +255,26 @@ two_is : (config : Configuration) (l : SourceLine) (ls : List SourceLine) (resul
 two_is config l ls result e comes = subst (λ (b : Bool). Comes
     (if b then judged_two config l ls else judged_one config (l ∷ ls)) result) (sym e) comes
 
--- a journal without a byte
-pub judged_missing : (config : Configuration) (left after : Option (List ℕ)) (line : List ℕ)
-    → FindsWithin (line_limit version.One) 0 left after line found.End
-    → IfSome left (λ bytes. Comes (judged config (lines bytes)) (finding.Script 1))
-judged_missing config None after line f = tt
-judged_missing config (Some bytes) after line f = subst (λ (b : List ℕ). Comes (judged config (lines b))
-    (finding.Script 1)) (sym f.0) refl
-
--- one whose first line cannot be read
-pub judged_faulty : (config : Configuration) (left after : Option (List ℕ)) (line : List ℕ)
-    → FindsWithin (line_limit version.One) 0 left after line found.Faulty
-    → IfSome left (λ bytes. Comes (judged config (lines bytes)) (finding.Script 1))
-judged_faulty config None after line f = tt
-judged_faulty config (Some bytes) after line f =
+-- a journal whose first line cannot be read
+judged_unread : (config : Configuration) (bytes : List ℕ) → IsUnread version.One 0 bytes
+    → Comes (judged config (lines bytes)) (finding.Script 1)
+judged_unread config bytes (inl e) = subst (λ (b : List ℕ). Comes (judged config (lines b)) (finding.Script 1)) (sym e)
+    refl
+judged_unread config bytes (inr f) =
     subst (λ (ls : List SourceLine). Comes (judged config ls) (finding.Script 1)) (sym f.first)
     (one_is config f.line f.rest (finding.Script 1) (no_version f.line (is_version_line f.line) refl f.faulty)
     (faulty_lines version.One (epochs_of version.One config (f.line ∷ f.rest)) f.line f.rest 0 f.faulty))
+
+pub judged_lacking : (config : Configuration) (left : Option (List ℕ)) (result : Finding)
+    → LacksLine version.One 0 left result → IfSome left (λ bytes. Comes (judged config (lines bytes)) result)
+judged_lacking config None result l = tt
+judged_lacking config (Some bytes) (finding.Verified count) l = absurd l
+judged_lacking config (Some bytes) (finding.Script n) l =
+    subst (λ (k : ℕ). Comes (judged config (lines bytes)) (finding.Script k)) (sym l.0)
+    (judged_unread config bytes l.1)
+judged_lacking config (Some bytes) (finding.Differs n machine journal) l = absurd l
+judged_lacking config (Some bytes) finding.ReadFault l = tt
+judged_lacking config (Some bytes) finding.WantOfMemory l = tt
 
 -- one of version 1
 pub judged_first_one : (config : Configuration) (left after : Option (List ℕ)) (line : List ℕ) (moved : ℕ)
@@ -280,10 +335,29 @@ if_at_end None held left e = tt
 if_at_end (Some bytes) held left e = held_at_end held left e
 
 -- and what is held then is nothing
-pub reaches_source : (f : Finding) (first : Option (List ℕ)) (held : List ℕ) (left : Option (List ℕ))
+reaches_source : (f : Finding) (first : Option (List ℕ)) (held : List ℕ) (left : Option (List ℕ))
     → ReachesEnd f first (prepend_known held left) → ReachesEnd f first left
 reaches_source (finding.Verified count) first held left r = if_at_end first held left r
 reaches_source (finding.Script n) first held left r = tt
 reaches_source (finding.Differs n machine journal) first held left r = tt
 reaches_source finding.ReadFault first held left r = tt
 reaches_source finding.WantOfMemory first held left r = tt
+
+held_none : (held : List ℕ) (left : Option (List ℕ)) → held ≡ [] → prepend_known held left ≡ left
+held_none held None e = refl
+held_none [] (Some bytes) e = refl
+held_none (b ∷ held) (Some bytes) e = absurd (cc)
+
+-- where nothing was held at first
+pub judged_unheld : (config : Configuration) (held : List ℕ) (left : Option (List ℕ)) (result : Finding) → held ≡ []
+    → IfSome (prepend_known held left) (λ bytes. Comes (judged config (lines bytes)) result)
+    → IfSome left (λ bytes. Comes (judged config (lines bytes)) result)
+judged_unheld config held left result e comes =
+    subst (λ (o : Option (List ℕ)). IfSome o (λ bytes. Comes (judged config (lines bytes)) result))
+    (held_none held left e) comes
+
+pub reaches_unheld : (f : Finding) (held : List ℕ) (first : Option (List ℕ)) (rest : List ℕ) (left : Option (List ℕ))
+    → held ≡ [] → ReachesEnd f (prepend_known held first) (prepend_known rest left) → ReachesEnd f first left
+reaches_unheld f held first rest left e r =
+    subst (λ (o : Option (List ℕ)). ReachesEnd f o left) (held_none held first e)
+    (reaches_source f (prepend_known held first) rest left r)

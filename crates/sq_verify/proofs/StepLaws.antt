@@ -15,12 +15,14 @@ use Rattle.sq_machine.specs.Marking.{marked}
 use Rattle.sq_machine.specs.Readings.{current, epoch_after}
 use Rattle.sq_journal.specs.Journals.{epoch_at, greatest_number, next_number, number_at}
 use Rattle.sq_journal_writers.specs.Sinks.{epoch_behind}
+use Rattle.sq_replay.specs.declared.stops.Stop.{Stop}
+use Rattle.sq_replay.specs.declared.stops.Stop.TheVariants as stop
 use Rattle.sq_replay.specs.Making.{is_refused}
 use Rattle.sq_replay.specs.Runs.{Is, IsMade, ScriptView}
 use Rattle.sq_verify.specs.declared.halts.Halt.{Halt}
 use Rattle.sq_verify.specs.declared.halts.Halt.TheVariants as halt
 use Rattle.sq_verify.specs.declared.versions.Version.{Version}
-use Rattle.sq_verify.specs.Promised.{Compares, Goes, IsNone, MayFollow, Stands}
+use Rattle.sq_verify.specs.Promised.{Compares, ComparesNext, Goes, IsNone, MayFollow, Plays, Stands, halt_for}
 use Rattle.sq_verify.specs.JournalLines.{line_in, text_in}
 use Rattle.sq_verify.specs.Judging.{asked_line, compared, event_line, if_read, if_request, matched}
 
@@ -81,7 +83,7 @@ event_is v old new configs h line now event answer is may m = follows v configs 
     ∙ asked_is v old new configs h line now event answer is m
 
 -- the line is the machine's
-pub goes_on : (v : Version) (old new : ScriptView) (configs : List Configuration) (h : History) (line : List ℕ)
+goes_on : (v : Version) (old new : ScriptView) (configs : List Configuration) (h : History) (line : List ℕ)
     (now : ℕ) (event : Event) (answer : Told) (count epoch next : ℕ)
     → count + 1 ≤ greatest_number → next ≡ epoch_behind epoch event → Stands old count epoch configs h → MayFollow event
     → IsMade new configs h (max now old.latest) event answer
@@ -101,7 +103,7 @@ goes_on v old new configs h line now event answer count epoch next less n s may 
     )
 
 -- the line is another, or memory was wanting
-pub goes_no_more : (v : Version) (old new : ScriptView) (configs : List Configuration) (h : History) (line : List ℕ)
+goes_no_more : (v : Version) (old new : ScriptView) (configs : List Configuration) (h : History) (line : List ℕ)
     (now : ℕ) (event : Event) (answer : Told) (count epoch next : ℕ) (stop : Halt)
     → count + 1 ≤ greatest_number → next ≡ epoch_behind epoch event → Stands old count epoch configs h → MayFollow event
     → IsMade new configs h (max now old.latest) event answer
@@ -115,6 +117,19 @@ goes_no_more v old new configs h line now event answer count epoch next (halt.Di
     ∙ compared_by v h line e false (subst (λ (t : List ℕ). bytes_eq t line ≡ false) text c.1)
     ∙ ap (λ (t : List ℕ). Err (halt.Differs t)) (sym (c.0 ∙ text))
 goes_no_more v old new configs h line now event answer count epoch next halt.WantOfMemory less n s may m c = tt
+
+-- either
+pub goes_by : (v : Version) (old new : ScriptView) (configs : List Configuration) (h : History) (line : List ℕ)
+    (now : ℕ) (event : Event) (answer : Told) (count epoch : ℕ) (result : Result ℕ Halt)
+    → count + 1 ≤ greatest_number → Stands old count epoch configs h → MayFollow event
+    → IsMade new configs h (max now old.latest) event answer
+    → ComparesNext v count epoch (entry_at (max now old.latest) event answer) line result
+    → Goes new (count + 1) configs (event_line v configs h line now event) result
+goes_by v old new configs h line now event answer count epoch (Ok next) less s may m c =
+    goes_on v old new configs h line now event answer count epoch next less c.0 s may m c.1
+goes_by v old new configs h line now event answer count epoch (Err stop) less s may m c =
+    goes_no_more v old new configs h line now event answer count epoch (epoch_behind epoch event) stop less refl s may m
+    c
 
 -- what is refused
 
@@ -143,7 +158,7 @@ none_read (Ok config) step e = e
 none_read (Err fault) step e = refl
 
 -- an event that may not stand there, or that the machine refuses
-pub none_is : (v : Version) (old : ScriptView) (configs : List Configuration) (h : History) (line : List ℕ) (now : ℕ)
+none_is : (v : Version) (old : ScriptView) (configs : List Configuration) (h : History) (line : List ℕ) (now : ℕ)
     (event : Event) → Is old configs h → IsNone configs h (max now old.latest) event
     → event_line v configs h line now event ≡ Err halt.NoLine
 none_is v old configs h line now (Begin offset) is none = refl
@@ -159,3 +174,10 @@ none_is v old configs h line now (Reconfigure text) is (inr refused) =
     none_read (conf_result text) (asked_line v configs h line now (Reconfigure text))
     (refused_asked v old configs h line now (Reconfigure text) is refused)
 none_is v old configs h line now event is none = refused_asked v old configs h line now event is none
+
+pub goes_stopped : (v : Version) (old new : ScriptView) (configs : List Configuration) (h : History) (line : List ℕ)
+    (now count : ℕ) (event : Event) (stop : Stop) → Is old configs h → Plays old new now event (Err stop)
+    → Goes new count configs (event_line v configs h line now event) (Err (halt_for stop))
+goes_stopped v old new configs h line now count event stop.Refused is plays =
+    none_is v old configs h line now event is (plays configs h is)
+goes_stopped v old new configs h line now count event stop.WantOfMemory is plays = tt

@@ -1,9 +1,9 @@
 -- What the calls promise by which a journal is judged.
-use Rattle.std.specs.Prelude.{◌≡◌, ◌⊎◌, ℕ, ◌≤◌, suc, max, List, ◌++◌, length, true, false, bytes_eq, is_some, Result, Ok, Err, Some, None, IfSome}
+use Rattle.std.specs.Prelude.{◌≡◌, ◌⊎◌, ℕ, ℤ, ◌+◌, ◌≤◌, suc, max, List, [], ◌++◌, length, true, false, bytes_eq, is_some, Result, Ok, Err, Some, None, IfSome}
 use Rattle.std.specs.Io.KnownBytes.{IsAtEnd}
 use Rattle.std.specs.declared.option.Option.{Option}
 use Rattle.sq_outside.specs.Causes.{Rose}
-use Rattle.sq_outside.specs.SourceLines.{SourceLine, lines}
+use Rattle.sq_outside.specs.SourceLines.{IsFaultyWithin, SourceLine, lines}
 use Rattle.sq_request.specs.Written.{made_request}
 use Rattle.sq_machine.specs.declared.entries.Event.{Event}
 use Rattle.sq_machine.specs.declared.entries.Event.TheVariants.{Begin, Ask, Reconfigure}
@@ -18,6 +18,7 @@ use Rattle.sq_machine.specs.Marking.{marked}
 use Rattle.sq_machine.specs.Readings.{current}
 use Rattle.sq_model_laws.specs.Given.{EachOf}
 use Rattle.sq_journal.specs.Journals.{epoch_at}
+use Rattle.sq_journal_writers.specs.Sinks.{epoch_behind}
 use Rattle.sq_conf.specs.declared.faults.ConfFault.{ConfFault}
 use Rattle.sq_conf.specs.declared.faults.ConfFault.TheVariants as conf
 use Rattle.sq_replay.specs.declared.stops.Stop.{Stop}
@@ -29,7 +30,8 @@ use Rattle.sq_verify.specs.declared.findings.Finding.TheVariants as finding
 use Rattle.sq_verify.specs.declared.halts.Halt.{Halt}
 use Rattle.sq_verify.specs.declared.halts.Halt.TheVariants as halt
 use Rattle.sq_verify.specs.declared.versions.Version.{Version}
-use Rattle.sq_verify.specs.Judging.{Judged, judged_lines, named_from}
+use Rattle.sq_verify.specs.JournalLines.{line_limit, text_in}
+use Rattle.sq_verify.specs.Judging.{Judged, begun_line, judged_lines, line_number, named_from, stated_first}
 
 -- one line
 
@@ -39,6 +41,18 @@ Compares text line (Ok done) = bytes_eq text line ≡ true
 Compares text line (Err halt.NoLine) = ⊥
 Compares text line (Err (halt.Differs other)) = (other ≡ text) × (bytes_eq text line ≡ false)
 Compares text line (Err halt.WantOfMemory) = Unit {0}
+
+-- the text of an entry behind so many, the last of which has this epoch, and the epoch of the entry
+abbrev pub ComparesNext : Version → ℕ → ℕ → Noted → List ℕ → Result ℕ Halt → Type 0
+ComparesNext v count epoch e line (Ok next) = (next ≡ epoch_behind epoch e.event)
+    × (bytes_eq (text_in v (count + 1) next e) line ≡ true)
+ComparesNext v count epoch e line (Err stop) =
+    Compares (text_in v (count + 1) (epoch_behind epoch e.event) e) line (Err stop)
+
+-- how a stop ends a journal
+abbrev pub halt_for : Stop → Halt
+halt_for stop.Refused = halt.NoLine
+halt_for stop.WantOfMemory = halt.WantOfMemory
 
 -- why a text gives no configuration
 abbrev pub stop_for : ConfFault → Stop
@@ -117,7 +131,27 @@ BeginsLine machine config step (Err halt.NoLine) = step ≡ Err halt.NoLine
 BeginsLine machine config step (Err (halt.Differs text)) = step ≡ Err (halt.Differs text)
 BeginsLine machine config step (Err halt.WantOfMemory) = Unit {0}
 
+-- where the machine begins by the line of the first entry: at this moment and offset
+abbrev pub Begins : Version → List ℕ → Result History Halt → Result (ℕ × ℤ) Halt → Type 0
+Begins v line step (Ok at) = step ≡ begun_line v line at.0 (Begin at.1)
+Begins v line step (Err halt.NoLine) = step ≡ Err halt.NoLine
+Begins v line step (Err (halt.Differs text)) = ⊥
+Begins v line step (Err halt.WantOfMemory) = Unit {0}
+
 -- lines
+
+-- no line can be read at the front of these bytes, which begin behind `place` others
+abbrev pub IsUnread : Version → ℕ → List ℕ → Type 0
+IsUnread v place bytes = (bytes ≡ []) ⊎ IsFaultyWithin (line_limit v) place bytes
+
+-- what is found without the line that comes before all entries, or with the first
+abbrev pub LacksLine : Version → ℕ → Option (List ℕ) → Finding → Type 0
+LacksLine v place left (finding.Verified count) = ⊥
+LacksLine v place left (finding.Script line) = (line ≡ line_number v 0)
+    × IfSome left (IsUnread v place)
+LacksLine v place left (finding.Differs line machine journal) = ⊥
+LacksLine v place left finding.ReadFault = Unit {0}
+LacksLine v place left finding.WantOfMemory = Unit {0}
 
 -- behind the configurations of the epochs that have begun stand those that these lines hold
 pub record AreAhead (v : Version) (configs : List Configuration) (h : History)

@@ -1,13 +1,14 @@
 //! A journal, judged from its beginning.
-ghost use Rattle.std.specs.Prelude.{◌≡◌, ◌≤◌, Some, length, IfSome};
+ghost use Rattle.std.specs.Prelude.{◌≡◌, ◌≤◌, Some, length, IfErr, IfSome, OnOk};
 ghost use Rattle.std.specs.Io.KnownBytes.{prepend_known};
-ghost use Rattle.sq_outside.specs.SourceLines.{lines, total_limit};
-ghost use Rattle.sq_machine.specs.Entries.{History};
+ghost use Rattle.sq_outside.specs.SourceLines.{FindsWithin, Moves, lines, total_limit};
+ghost use Rattle.sq_machine.specs.Entries.{History, entry_at};
 ghost use Rattle.sq_verify.specs.Audits.{Audits, text_of};
-ghost use Rattle.sq_verify.specs.JournalLines.{noted_in};
+ghost use Rattle.sq_verify.specs.JournalLines.{line_limit, noted_in, text_in};
 ghost use Rattle.sq_machine.specs.declared.entries.Event.TheVariants as event;
+ghost use Rattle.sq_machine.specs.declared.entries.Told.TheVariants as told;
 ghost use Rattle.sq_verify.specs.Judging.{begun_line, epochs_of, judged, judged_behind, judged_first, stated_first};
-ghost use Rattle.sq_verify.specs.Promised.{BeginsLine, Comes, JudgeHasCauses, ReachesEnd};
+ghost use Rattle.sq_verify.specs.Promised.{Begins, BeginsLine, Comes, Compares, JudgeHasCauses, LacksLine, ReachesEnd};
 ghost use Rattle.sq_verify.specs.Tellable.{IsTellable, Verifies};
 ghost use Rattle.sq_verify.specs.declared.versions.Version.{Version};
 ghost use Rattle.sq_verify.specs.declared.versions.Version.TheVariants as version;
@@ -15,7 +16,7 @@ ghost use Rattle.sq_verify.specs.declared.versions.Version.TheVariants as versio
 use crate::comparing::{compare, read_line};
 use crate::findings::Finding;
 use crate::halts::Halt;
-use crate::judging::{halted, judge_rest};
+use crate::judging::{halted, judge_rest, line_number};
 use crate::players::Player;
 use crate::playing::configuration_facts;
 use crate::taking::journal_line;
@@ -29,6 +30,25 @@ use std::alloc::Global;
 
 /// How many bytes of a journal are read at once.
 const CHUNK: usize = 65_536;
+
+// Compares the line of the first entry with the text of it.
+fn compare_first(
+    alloc: Global,
+    version: Version,
+    line: &[u8],
+    now: Moment,
+    offset: Offset,
+) -> Result<(), Halt>
+    ensures { Compares (text_in version 1 1 (entry_at now (event.Begin offset) (told.Epoch 1)))
+        line.now result }
+{
+    let entry = Entry {
+        moment: now,
+        event: Event::Begin { offset },
+        answer: Told::Epoch(EpochNo(1)),
+    };
+    compare(alloc, version, 1, EpochNo(1), &entry, line)
+}
 
 // Begins the machine where the first entry says, and compares its line.
 fn begin<M: Player>(
@@ -46,14 +66,25 @@ fn begin<M: Player>(
         Ok(machine) => machine,
         Err(WantOfMemory) => return Err(Halt::WantOfMemory),
     };
-    let entry = Entry {
-        moment: now,
-        event: Event::Begin { offset },
-        answer: Told::Epoch(EpochNo(1)),
-    };
-    match compare(alloc, version, 1, EpochNo(1), &entry, line) {
+    match compare_first(alloc, version, line, now, offset) {
         Ok(()) => Ok(machine),
         Err(halt) => Err(halt),
+    }
+}
+
+// The moment and the offset at which the line of the first entry has the machine begin.
+fn beginning(alloc: Global, version: Version, line: &[u8]) -> Result<(Moment, Offset), Halt>
+    ensures { Begins version line.now (stated_first version line.now (noted_in version line.now))
+        result }
+{
+    let entry = match read_line(alloc, version, line) {
+        Ok(entry) => entry,
+        Err(EntryFault::BadEntry) => return Err(Halt::NoLine),
+        Err(EntryFault::WantOfMemory) => return Err(Halt::WantOfMemory),
+    };
+    match &entry.event {
+        Event::Begin { offset } => Ok((entry.moment, *offset)),
+        _ => Err(Halt::NoLine),
     }
 }
 
@@ -67,14 +98,9 @@ fn begin_line<M: Player>(
     ensures { BeginsLine M.machine setup (stated_first version line.now (noted_in version line.now))
         result }
 {
-    let entry = match read_line(alloc, version, line) {
-        Ok(entry) => entry,
-        Err(EntryFault::BadEntry) => return Err(Halt::NoLine),
-        Err(EntryFault::WantOfMemory) => return Err(Halt::WantOfMemory),
-    };
-    match &entry.event {
-        Event::Begin { offset } => begin(alloc, version, setup, line, entry.moment, *offset),
-        _ => Err(Halt::NoLine),
+    match beginning(alloc, version, line) {
+        Ok(at) => begin(alloc, version, setup, line, at.0, at.1),
+        Err(halt) => Err(halt),
     }
 }
 
@@ -103,6 +129,34 @@ fn judge_from<M: Player, S: Source>(
     judge_rest(alloc, version, &mut machine, place, held, journal)
 }
 
+// Takes the first line of a journal, or the one behind it; or says what is found without one that can be read.
+fn first_line<S: Source>(
+    version: Version,
+    held: &mut Held,
+    journal: &mut S,
+    place: &mut u64,
+    line: &mut Vec<u8>,
+) -> Result<(), Finding>
+    requires { place.old ≤ total_limit }
+    ensures whole { OnOk result
+        (FindsWithin (line_limit version) place.old (prepend_known held.old (S.left journal.old))
+        (prepend_known held.new (S.left journal.new)) line.new.items LineFound.Whole) }
+    ensures place { OnOk result (Moves place.old place.new line.new.items LineFound.Whole) }
+    ensures lacks { IfErr result
+        (λ f. LacksLine version place.old (prepend_known held.old (S.left journal.old)) f) }
+    ensures quiet { OnOk result (S.faults journal.new ≡ S.faults journal.old) }
+    ensures causes { IfErr result
+        (λ f. JudgeHasCauses (S.faults journal.old) (S.faults journal.new) f) }
+{
+    match journal_line(version, held, journal, place, line) {
+        Ok(LineFound::Whole) => Ok(()),
+        Ok(LineFound::End) => Err(Finding::Script(line_number(version, 0))),
+        Ok(LineFound::Faulty) => Err(Finding::Script(line_number(version, 0))),
+        Err(Unread::Failed) => Err(Finding::ReadFault),
+        Err(Unread::WantOfMemory) => Err(Finding::WantOfMemory),
+    }
+}
+
 // Judges a journal of version 2 behind its first line.
 fn judge_second<M: Player, S: Source>(
     alloc: Global,
@@ -121,14 +175,36 @@ fn judge_second<M: Player, S: Source>(
 {
     let mut place = place;
     let mut line = Vec::new(alloc);
-    match journal_line(Version::Two, held, journal, &mut place, &mut line) {
-        Ok(LineFound::Whole) => {}
-        Ok(LineFound::End) => return Finding::Script(2),
-        Ok(LineFound::Faulty) => return Finding::Script(2),
-        Err(Unread::Failed) => return Finding::ReadFault,
-        Err(Unread::WantOfMemory) => return Finding::WantOfMemory,
+    match first_line(Version::Two, held, journal, &mut place, &mut line) {
+        Ok(()) => judge_from::<M, S>(alloc, Version::Two, setup, line, place, held, journal),
+        Err(finding) => finding,
     }
-    judge_from::<M, S>(alloc, Version::Two, setup, line, place, held, journal)
+}
+
+// Judges what is held and left of a journal, from its first line on.
+fn judge_held<M: Player, S: Source>(
+    alloc: Global,
+    setup: Setup,
+    held: &mut Held,
+    journal: &mut S,
+) -> Finding
+    ensures judges { IfSome (prepend_known held.old (S.left journal.old))
+        (λ bytes. Comes (judged setup (lines bytes)) result) }
+    ensures end { ReachesEnd result (prepend_known held.old (S.left journal.old))
+        (prepend_known held.new (S.left journal.new)) }
+    ensures causes { JudgeHasCauses (S.faults journal.old) (S.faults journal.new) result }
+{
+    let mut place = 0;
+    let mut line = Vec::new(alloc);
+    match first_line(Version::One, held, journal, &mut place, &mut line) {
+        Ok(()) => {}
+        Err(finding) => return finding,
+    }
+    if is_version_line(line.as_slice()) {
+        judge_second::<M, S>(alloc, setup, place, held, journal)
+    } else {
+        judge_from::<M, S>(alloc, Version::One, setup, line, place, held, journal)
+    }
 }
 
 // Judges a journal from its first line on.
@@ -138,23 +214,9 @@ fn judge_all<M: Player, S: Source>(alloc: Global, setup: Setup, journal: &mut S)
     ensures end { ReachesEnd result (S.left journal.old) (S.left journal.new) }
     ensures causes { JudgeHasCauses (S.faults journal.old) (S.faults journal.new) result }
 {
-    let mut held = match Held::new(alloc, CHUNK) {
-        Ok(held) => held,
-        Err(WantOfMemory) => return Finding::WantOfMemory,
-    };
-    let mut place = 0;
-    let mut line = Vec::new(alloc);
-    match journal_line(Version::One, &mut held, journal, &mut place, &mut line) {
-        Ok(LineFound::Whole) => {}
-        Ok(LineFound::End) => return Finding::Script(1),
-        Ok(LineFound::Faulty) => return Finding::Script(1),
-        Err(Unread::Failed) => return Finding::ReadFault,
-        Err(Unread::WantOfMemory) => return Finding::WantOfMemory,
-    }
-    if is_version_line(line.as_slice()) {
-        judge_second::<M, S>(alloc, setup, place, &mut held, journal)
-    } else {
-        judge_from::<M, S>(alloc, Version::One, setup, line, place, &mut held, journal)
+    match Held::new(alloc, CHUNK) {
+        Ok(mut held) => judge_held::<M, S>(alloc, setup, &mut held, journal),
+        Err(WantOfMemory) => Finding::WantOfMemory,
     }
 }
 

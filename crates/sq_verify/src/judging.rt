@@ -6,7 +6,7 @@ ghost use Rattle.sq_rules.specs.Configurations.{Configuration};
 ghost use Rattle.sq_machine.specs.Entries.{History, is_event};
 ghost use Rattle.sq_verify.specs.JournalLines.{noted_in};
 ghost use Rattle.sq_verify.specs.Judging.{event_line, found_at, judged_lines, line_number, stated_line};
-ghost use Rattle.sq_verify.specs.Promised.{Goes, HasNext, IsNext, JudgeHasCauses, JudgesOver, ReachesEnd, Stands};
+ghost use Rattle.sq_verify.specs.Promised.{ComparesNext, Goes, HasNext, IsNext, JudgeHasCauses, JudgesOver, ReachesEnd, Stands, halt_for};
 
 use crate::comparing::{compare, epoch_behind, read_line};
 use crate::findings::Finding;
@@ -21,6 +21,36 @@ use sq_machine::{Entry, Event, later};
 use sq_outside::{Held, LineFound, Source, Unread};
 use sq_replay::Stop;
 use std::alloc::Global;
+
+// How a stop ends a journal.
+fn halt_for(stop: Stop) -> Halt
+    ensures { result ≡ halt_for stop }
+{
+    match stop {
+        Stop::Refused => Halt::NoLine,
+        Stop::WantOfMemory => Halt::WantOfMemory,
+    }
+}
+
+// Compares a line with the text of the entry behind so many, the last of which has this epoch. The answer is the epoch of
+// the entry.
+fn compare_next(
+    alloc: Global,
+    version: Version,
+    count: u64,
+    epoch: EpochNo,
+    entry: &Entry,
+    line: &[u8],
+) -> Result<EpochNo, Halt>
+    requires { count < 2 ^ 63 - 1 }
+    ensures { ComparesNext version count epoch entry.now line.now result }
+{
+    let next = epoch_behind(epoch, &entry.event);
+    match compare(alloc, version, count + 1, next, entry, line) {
+        Ok(()) => Ok(next),
+        Err(halt) => Err(halt),
+    }
+}
 
 // Judges the event of a line behind so many entries, the last of which has this epoch. The answer is the epoch of its entry.
 fn judge_event<M: Player>(
@@ -43,19 +73,14 @@ fn judge_event<M: Player>(
     let moment = later(now, machine.latest());
     let answer = match play(alloc, machine, &event, now) {
         Ok(answer) => answer,
-        Err(Stop::Refused) => return Err(Halt::NoLine),
-        Err(Stop::WantOfMemory) => return Err(Halt::WantOfMemory),
+        Err(stop) => return Err(halt_for(stop)),
     };
-    let next = epoch_behind(epoch, &event);
     let entry = Entry {
         moment,
         event,
         answer,
     };
-    match compare(alloc, version, count + 1, next, &entry, line) {
-        Ok(()) => Ok(next),
-        Err(halt) => Err(halt),
-    }
+    compare_next(alloc, version, count, epoch, &entry, line)
 }
 
 // Judges a line behind so many entries.
@@ -92,8 +117,8 @@ fn judge_line<M: Player>(
     )
 }
 
-// The number of the line behind so many entries.
-fn line_number(version: Version, count: u64) -> u64
+/// The number of the line behind so many entries.
+pub fn line_number(version: Version, count: u64) -> u64
     requires { count < 2 ^ 63 - 1 }
     ensures { result ≡ line_number version count }
 {
