@@ -20,7 +20,9 @@ use std::io::ErrorKind;
 use std::net::Net;
 use std::os::fd::OwnedFd;
 use std::os::unix::net::UnixStream;
-use std::process::{ChildStderr, ChildStdin, ChildStdout, Command, OpenProcess, Processes, Stdio};
+use std::process::{
+    Child, ChildStderr, ChildStdin, ChildStdout, Command, OpenProcess, Processes, Stdio,
+};
 use std::rt::{Env, Files};
 use std::sync::{Arc, Wait};
 use std::time::{Clock, Duration};
@@ -255,14 +257,19 @@ fn errors_of<R: Env + Files<File = File>>(rt: &R) -> Stdio {
     }
 }
 
+// Puts a word behind a command. None where it is not UTF-8, or there is no memory.
+fn put_word(command: &mut Command, word: &Text) -> Option<()> {
+    command.arg(str::from_utf8(word.as_bytes()).ok()?).ok()?;
+    Some(())
+}
+
 // The words as a command. None where a word is not UTF-8, there is none, or there is no memory.
-fn command_of(alloc: Global, words: &[Text], output: Stdio, errors: Stdio) -> Option<Command> {
+fn command_of(alloc: Global, words: &[Text]) -> Option<Command> {
     let (program, arguments) = words.split_first()?;
     let mut command = Command::new(alloc, str::from_utf8(program.as_bytes()).ok()?).ok()?;
     for word in arguments {
-        command.arg(str::from_utf8(word.as_bytes()).ok()?).ok()?;
+        put_word(&mut command, word)?;
     }
-    command.stdin(Stdio::piped()).stdout(output).stderr(errors);
     Some(command)
 }
 
@@ -271,6 +278,41 @@ fn unblocked(stdin: Option<ChildStdin>) -> Option<ChildStdin> {
     let stream = UnixStream::from(OwnedFd::from(stdin?));
     stream.set_nonblocking(true).ok()?;
     Some(ChildStdin::from(OwnedFd::from(stream)))
+}
+
+// Two ends of a socket, of which the first one's reads wait for a tick.
+fn socket<R: Net>(rt: &R, times: LinkTimes) -> Option<(UnixStream, UnixStream)> {
+    let (said, theirs) = UnixStream::pair(rt).ok()?;
+    said.set_read_timeout(Some(times.tick)).ok()?;
+    Some((said, theirs))
+}
+
+// A process whose output comes over this socket, held by two.
+fn held_by_two<S>(
+    alloc: Global,
+    said: UnixStream,
+) -> Option<(Arc<ChildProcess<S>>, Arc<ChildProcess<S>>)>
+where
+    S: OpenProcess<Stdin = ChildStdin, Stdout = ChildStdout, Stderr = ChildStderr> + Drop,
+{
+    let process = Arc::new(alloc, ChildProcess::new(alloc, said)).ok()?;
+    let other = Arc::try_clone(&process).ok()?;
+    Some((process, other))
+}
+
+// What these words start, with this end of a socket as its output.
+fn spawned<R: Processes + Env + Files<File = File>>(
+    alloc: Global,
+    rt: &R,
+    words: &[Text],
+    output: UnixStream,
+) -> Option<Child<R::Started>> {
+    let mut command = command_of(alloc, words)?;
+    command
+        .stdin(Stdio::piped())
+        .stdout(Stdio::from(OwnedFd::from(output)))
+        .stderr(errors_of(rt));
+    command.spawn(rt).ok()
 }
 
 // The process that these words start. Nothing is wanting once it was started.
@@ -289,15 +331,10 @@ fn begin<R: Processes + Net + Env + Files<File = File> + Wait>(
 where
     R::Started: OpenProcess<Stdin = ChildStdin, Stdout = ChildStdout, Stderr = ChildStderr>,
 {
-    let (said, theirs) = UnixStream::pair(rt).ok()?;
-    said.set_read_timeout(Some(times.tick)).ok()?;
     let line = Vec::with_capacity(alloc, LINE).ok()?;
-    let process = Arc::new(alloc, ChildProcess::new(alloc, said)).ok()?;
-    let other = Arc::try_clone(&process).ok()?;
-    let output = Stdio::from(OwnedFd::from(theirs));
-    let mut child = command_of(alloc, words, output, errors_of(rt))?
-        .spawn(rt)
-        .ok()?;
+    let (said, theirs) = socket(rt, times)?;
+    let (process, other) = held_by_two(alloc, said)?;
+    let mut child = spawned(alloc, rt, words, theirs)?;
     let stdin = unblocked(child.stdin.take());
     process.begin(rt, child, stdin);
     Some((process, other, line))
