@@ -39,6 +39,11 @@ IsReady n v (Err fault.WantOfMemory) w = (v.stopped ≡ false) × (v.spare ≤ w
     × (w ≡ record v { spare = w.spare })
 IsReady n v (Err f) w = ⊥
 
+-- that a call was done, without what it gave
+abbrev pub done_of : {A : Type 0} → Result A DeskFault → Result (Unit {0}) DeskFault
+done_of (Ok a) = Ok tt
+done_of (Err f) = Err f
+
 -- the entry was noted in one of the places; or the note failed, and the notebook has stopped
 abbrev pub IsNoted : Noted → Notebook → Result (Unit {0}) DeskFault → Notebook → Type 0
 IsNoted e v (Ok done) w = (suc w.spare ≡ v.spare)

@@ -9,6 +9,7 @@ ghost use Rattle.sq_model_state.specs.Answers.{ask_answer, asked_in};
 ghost use Rattle.sq_model_state.specs.Changes.{after_ask};
 ghost use Rattle.sq_engine.specs.EngineViews.{state_of};
 ghost use Rattle.sq_desk.specs.Calling.{Leaves, Makes, desk_of, load_of};
+ghost use Rattle.sq_desk.specs.Noting.{IsReady, done_of};
 
 use crate::notes::Notes;
 use sq_base::{CheckNo, ConnNo, Copying, Moment, Request, WantOfMemory};
@@ -44,6 +45,28 @@ fn asked(alloc: Global, conn: ConnNo, request: &Request) -> Result<Event, WantOf
     })
 }
 
+// Makes a place for the entry of a request, and its event.
+fn ready<J: Journal>(
+    notes: &mut Notes<J>,
+    load: u128,
+    alloc: Global,
+    conn: ConnNo,
+    request: &Request,
+) -> Result<Event, DeskFault>
+    ensures event { IfOk result
+        (λ e. e ≡ event.Ask conn request.now.method request.now.target request.now.fields) }
+    ensures ready { IsReady (load + 1) notes.old (done_of result) notes.new }
+{
+    match notes.ready(load, 1) {
+        Ok(()) => {}
+        Err(fault) => return Err(fault),
+    }
+    match asked(alloc, conn, request) {
+        Ok(event) => Ok(event),
+        Err(WantOfMemory) => Err(DeskFault::WantOfMemory),
+    }
+}
+
 // A request arrives on a connection, and its check begins.
 pub(crate) fn ask<J: Journal>(
     engine: &mut Engine,
@@ -63,13 +86,9 @@ pub(crate) fn ask<J: Journal>(
 {
     let moment = later(now, engine.latest());
     formed(&request);
-    match notes.ready(engine.load(), 1) {
-        Ok(()) => {}
-        Err(fault) => return Err(fault),
-    }
-    let event = match asked(alloc, conn, &request) {
+    let event = match ready(notes, engine.load(), alloc, conn, &request) {
         Ok(event) => event,
-        Err(WantOfMemory) => return Err(DeskFault::WantOfMemory),
+        Err(fault) => return Err(fault),
     };
     let check = match engine.ask(alloc, conn, request, now) {
         Ok(check) => check,

@@ -8,6 +8,8 @@ ghost use Rattle.sq_machine.specs.declared.entries.Told.TheVariants as told;
 ghost use Rattle.sq_model_state.specs.Answers.{take_answer};
 ghost use Rattle.sq_model_state.specs.Changes.{after_take};
 ghost use Rattle.sq_engine.specs.EngineViews.{state_of};
+ghost use Rattle.sq_engine.specs.Stepping.{epoch_of};
+ghost use Rattle.sq_engine.specs.Tellings.{IsTold};
 ghost use Rattle.sq_desk.specs.Calling.{Leaves, Makes, desk_of, load_of};
 
 use crate::notes::Notes;
@@ -16,9 +18,22 @@ use sq_calls::DeskFault;
 use sq_checks::Record;
 use sq_engine::Engine;
 use sq_journal_writers::Journal;
-use sq_machine::{Entry, Event, Told, later};
+use sq_machine::{Entry, Event, Refusal, Told, later};
 use sq_model_state::copy_outcome;
+use sq_rules::Outcome;
 use std::alloc::Global;
+
+// A copy of the outcome of a check that would be taken.
+fn outcome_copy(engine: &Engine, alloc: Global, check: CheckNo) -> Result<Outcome, Refusal>
+    ensures { IsTold (λ o. told.Judged (epoch_of (state_of engine.now) check) o)
+        (take_answer (state_of engine.now) check) result }
+{
+    let outcome = engine.outcome(check)?;
+    match copy_outcome(alloc, outcome) {
+        Ok(copy) => Ok(copy),
+        Err(WantOfMemory) => Err(Refusal::WantOfMemory),
+    }
+}
 
 // The outcome of a check is taken, and the check is over.
 pub(crate) fn take<J: Journal>(
@@ -42,16 +57,13 @@ pub(crate) fn take<J: Journal>(
         Ok(()) => {}
         Err(fault) => return Err(fault),
     }
-    let outcome = match engine.outcome(check) {
-        Ok(outcome) => match copy_outcome(alloc, outcome) {
-            Ok(outcome) => outcome,
-            Err(WantOfMemory) => return Err(DeskFault::WantOfMemory),
-        },
+    let outcome = match outcome_copy(engine, alloc, check) {
+        Ok(outcome) => outcome,
         Err(refusal) => return Err(notes.refuse(refusal)),
     };
     let record = match engine.take(check, now) {
         Ok(record) => record,
-        Err(refusal) => return Err(notes.refuse(refusal)),
+        Err(_) => unreachable!(),
     };
     // For the proof: its outcome is the verdict.
     let _outcome = record.outcome();

@@ -1,5 +1,4 @@
-use Rattle.std.proofs.Common.{◌∙◌, ap, refl}
-use Rattle.sq_machine.specs.Entries.{is_outcome}
+use Rattle.std.proofs.Common.{refl}
 use Rattle.sq_engine.specs.EngineViews.{state_of}
 use Rattle.sq_engine.specs.Stepping.{epoch_of}
 use Rattle.sq_desk.proofs.EventLaws.{told_outcome}
@@ -8,7 +7,6 @@ use Rattle.sq_desk.proofs.taking.take.Goals as goal
 pub invariant_of-entry : goal.invariant_of-entry
 invariant_of-entry g c = record {
   event_is = refl;
-  row_is = ap is_outcome c.in-Ok-copy_outcome.ensures
-      ∙ told_outcome (state_of c.args.engine.now) c.args.check (epoch_of (state_of c.args.engine.now) c.args.check)
-      c.in-Ok-outcome.outcome.now c.in-Ok-outcome.ensures;
+  row_is = told_outcome (state_of c.args.engine.now) c.args.check (epoch_of (state_of c.args.engine.now) c.args.check)
+      c.in-Ok-outcome_copy.outcome c.in-Ok-outcome_copy.ensures;
 }
