@@ -11,7 +11,7 @@ use sq_base::Texts;
 use sq_calls::DeskCalls;
 use sq_control::{ListenerMonitor, Panel, PanelEnd};
 use sq_helper_threads::{KeeperParts, PumpParts, PumpTools, Shelf, pump_all};
-use sq_outside::{Another, Clock, Spawner, Stopper};
+use sq_outside::{Another, Clock, Listener, Spawner, Stopper};
 use sq_pools::{Pools, TagPools};
 use sq_rewrite_pump::{RewriterShelf, rewrite_all};
 use sq_shared::{
@@ -92,6 +92,14 @@ struct ServerLocks<'a, 'r, R: Wait, N: NetTypes, D: DeskCalls, B: Ledgers> {
     rewriter: Option<&'a RewriterRoom>,
     shelf: &'a Shelf<'r, <N::S as Spawner>::ChildOut, R, B>,
     rewriter_shelf: &'a RewriterShelf<<N::S as Spawner>::ChildOut>,
+}
+
+// What the panel looks at. What is proved of a closure grows with the types that it captures, so it has these alone.
+#[derive(Drop)]
+struct PanelLocks<'a, L: Listener, D: DeskCalls, B: Ledgers> {
+    door: &'a Mutex<Door<L>>,
+    room: &'a Room<D, B>,
+    bank: &'a Mutex<Bank<Grants<B>>>,
 }
 
 // The panel, and what stops the listener when its run has ended.
@@ -265,13 +273,13 @@ fn pump_beside<
     sums
 }
 
-impl<R: Wait, N: NetTypes, D: DeskCalls, B: Ledgers> ServerLocks<'_, '_, R, N, D, B> {
-    // Runs the panel.
-    fn run_panel<K: Panel>(
-        &self,
+impl<L: Listener + Drop, D: DeskCalls, B: Ledgers> PanelLocks<'_, L, D, B> {
+    // Runs the panel, and stops the listener when its run has ended.
+    fn run_panel<R: Wait, K: Panel, T: Stopper + Drop, C: Clock + Drop>(
+        self,
         rt: &R,
-        panel: K,
-        clock: N::C,
+        steering: Steering<K, T>,
+        clock: C,
         made: Share<Makes<B>>,
         refused: Share<Refusals<B>>,
     ) -> (K, PanelEnd, Share<Makes<B>>)
@@ -280,21 +288,18 @@ impl<R: Wait, N: NetTypes, D: DeskCalls, B: Ledgers> ServerLocks<'_, '_, R, N, D
         requires some { 0 < made.parts }
         requires none { made.amount ≡ 0 }
         requires refused { 0 < refused.parts }
-        ensures gives { K.gives panel result.0 result.1 result.2.amount }
+        ensures gives { K.gives steering.panel result.0 result.1 result.2.amount }
         ensures whole { result.2.parts ≡ B.makes.parts }
     {
+        let Steering { panel, stopper } = steering;
         let door = self.door;
-        panel.run(
-            rt,
-            self.room,
-            self.bank,
-            ListenerMonitor {
-                failed: &|| has_failed(door),
-                clock,
-            },
-            made,
-            refused,
-        )
+        let monitor = ListenerMonitor {
+            failed: &|| has_failed(door),
+            clock,
+        };
+        let back = panel.run(rt, self.room, self.bank, monitor, made, refused);
+        stopper.stop();
+        back
     }
 }
 
@@ -333,7 +338,6 @@ impl<
             mut refused,
             grants,
         } = wholes;
-        let Steering { panel, stopper } = steering;
         let parts = u64::from(workers) + u64::from(workers);
         let spare = REFUSALS - parts - 2;
         let theirs = refused.split_off(parts, 0);
@@ -350,6 +354,11 @@ impl<
         };
         let panel_clock = tools.clock.another();
         let locks = self;
+        let panel_locks = PanelLocks {
+            door: self.door,
+            room: self.room,
+            bank: self.bank,
+        };
         join(
             rt,
             move || -> Sums<B>
@@ -365,19 +374,11 @@ impl<
                     × (result.grants.parts ≡ workers + workers) }
             { pump_beside::<R, N, D, B>(rt, alloc, locks, words, tools, workers, shares, pumps) },
             move || -> (K, PanelEnd, Share<Makes<B>>)
-                requires { IsSend N.L.row × IsSend N.L.In.row × IsSend N.L.Outgo.row
-                    × IsSend N.T.row × IsSend N.D.row × IsSend N.D.In.row × IsSend N.D.Outgo.row
-                    × IsSend N.S.row × IsSend N.S.ChildOut.row × IsSend N.S.ChildIn.row
-                    × IsSend N.C.row × IsSend N.Q.row
-                    × (D.is_counting ≡ true) × (made.parts ≡ B.makes.parts)
+                requires { (D.is_counting ≡ true) × (made.parts ≡ B.makes.parts)
                     × (0 < made.parts) × (made.amount ≡ 0) × (0 < panels.parts) }
-                ensures { K.gives panel result.0 result.1 result.2.amount
+                ensures { K.gives steering.panel result.0 result.1 result.2.amount
                     × (result.2.parts ≡ B.makes.parts) }
-            {
-                let back = locks.run_panel::<K>(rt, panel, panel_clock, made, panels);
-                stopper.stop();
-                back
-            },
+            { panel_locks.run_panel::<R, K, N::T, N::C>(rt, steering, panel_clock, made, panels) },
         )
     }
 }

@@ -48,18 +48,6 @@ join-requires-after_bounds g c κs within = (
   ),
   (
     (
-      search rules,
-      search rules,
-      search rules,
-      search rules,
-      search rules,
-      search rules,
-      search rules,
-      search rules,
-      search rules,
-      search rules,
-      search rules,
-      search rules,
       c.requires.counting,
       c.requires.made.0,
       c.requires.made.1,
