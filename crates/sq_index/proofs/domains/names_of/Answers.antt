@@ -19,7 +19,8 @@ loop-domain-preserved c =
           ap (λ l. has_host l host) c.in_ok-push.ensures.items
           ∙ both_more (λ (n : Name). is_at n host) (λ d. in_domain host (str_to_ascii_lowercase d)) names name
           c.args.domains.now c.loop-domain.domain-index c.domain-item.result c.loop-domain-test.true c.domain-item.is
-          (c.in_ok-of.ensures.stands host ∙ ap (λ d. in_domain host (str_to_ascii_lowercase d)) c.as_bytes.ensures.value)
+          (c.in_ok-of.ensures.stands host
+          ∙ ap (λ d. in_domain host (str_to_ascii_lowercase d)) c.as_bytes.ensures.value)
           (c.loop-domain.invariant.same host);
       hashed = All-same is_hashed c.push.new.self.items (names ++ name ∷ []) c.in_ok-push.ensures.items
           (All-push is_hashed names name c.loop-domain.invariant.hashed c.in_ok-of.ensures.hash);
