@@ -1,8 +1,6 @@
-//! Tests of the outside in memory, and of a pipe between two threads: a job over all objects of a net, in which each call of
-//! each object fails once, and what is in no clause.
+//! Tests of what is in no clause of the outside in memory, and of a pipe between two threads.
 //!
 //! What is expected comes from what the forms in memory, and the pipe, say of their calls.
-mod faults;
+mod fixtures;
 mod forms;
-mod job;
 mod pipes;

@@ -1,9 +1,9 @@
 //! What of the forms in memory is in no clause: that a listener stops once it was asked to, and that a process waits for what
 //! it is asked.
-use crate::outside::job::{Part, Wires, children, helper, link, net, stops, wire, words_of};
+use crate::outside::fixtures::{net, spawner, stops, wire, words_of};
 use sq_base::Text;
 use sq_outside::{Out, Source, Spawner, write_all};
-use sq_outside_mem::{MemChildOut, MemNet, MemOut, MemSpawner, MemWait, Wire};
+use sq_outside_mem::{MemChildOut, MemNet, MemOut, MemSpawner};
 use std::alloc::Global;
 use std::process::Abort;
 use std::sync::atomic::AtomicBool;
@@ -21,9 +21,8 @@ fn check_stop<'a, R: Abort>(rt: &R, alloc: Global, net: &mut MemNet<'a>) {
 fn a_listener_that_was_asked_to_stop_stops(rt: HostRuntime) {
     let names = Vec::new(rt.alloc());
     let word = AtomicBool::new(false);
-    let wires = Wires::new(&rt, rt.alloc());
-    let names = names.as_slice();
-    let mut net = net(&rt, rt.alloc(), Part::Net, 9, names, &word, &wires);
+    let wire = wire(&rt, rt.alloc());
+    let mut net = net(&rt, rt.alloc(), names.as_slice(), &word, &wire);
     check_stop(&rt, rt.alloc(), &mut net);
 }
 
@@ -35,14 +34,6 @@ static ASKS: [(&[u8], bool, &[u8]); 5] = [
     (b"", false, b"ERR\n"),
     (b"", true, b""),
 ];
-
-/// A spawner with one child, which waits for what it is asked.
-fn spawner<'a, R: Abort>(rt: &R, alloc: Global, wire: &'a Wire) -> MemSpawner<'a> {
-    let said = b"OK\nERR\nOK\n";
-    let pair = link(rt, alloc, said, Vec::new(alloc), Vec::new(alloc), wire);
-    let children = children(rt, alloc, pair, Some(MemWait { wire, turns: 10 }));
-    MemSpawner::new(alloc, children, Vec::new(alloc)).expect(rt, "memory")
-}
 
 /// Whether a program of this word can be started.
 fn starts<'a, R: Abort>(rt: &R, alloc: Global, spawner: &mut MemSpawner<'a>, word: &[u8]) -> bool {
@@ -77,13 +68,13 @@ fn check_process<'a, R: Abort>(
 fn check_spawner<'a, R: Abort>(rt: &R, alloc: Global, spawner: &mut MemSpawner<'a>) {
     let starts_another = starts(rt, alloc, spawner, b"other");
     assert!(rt; !starts_another);
-    let words = helper(rt, alloc);
+    let words = words_of(rt, alloc, b"helper");
     check_process(rt, alloc, words.as_slice(), spawner);
 }
 
 #[test]
 fn a_process_answers_line_by_line_and_ends_when_it_is_closed(rt: HostRuntime) {
     let wire = wire(&rt, rt.alloc());
-    let mut spawner = spawner(&rt, rt.alloc(), &wire);
+    let mut spawner = spawner(&rt, rt.alloc(), b"helper", b"OK\nERR\nOK\n", &wire);
     check_spawner(&rt, rt.alloc(), &mut spawner);
 }
