@@ -1,5 +1,5 @@
 -- What follows a verdict, put together.
-use Rattle.std.proofs.Common.{◌≡◌, ◌⊎◌, inl, inr, ℕ, ◌+◌, ◌≤◌, List, [], ◌∷◌, ◌++◌, Bool, true, false, ◌&&◌, Option, Some, None, Ok, Err, bytes_eq, codes, refl, sym, ap, subst, ◌∙◌, arith, append_assoc}
+use Rattle.std.proofs.Common.{◌≡◌, ◌⊎◌, inl, inr, ℕ, ◌+◌, ◌≤◌, List, [], ◌∷◌, ◌++◌, Bool, true, false, ◌&&◌, Option, Some, None, Ok, bytes_eq, codes, refl, sym, ap, subst, ◌∙◌, arith, append_assoc}
 use Rattle.sq_base.specs.Addresses.{Address}
 use Rattle.sq_base.specs.Requests.{HttpRequest}
 use Rattle.sq_base.specs.declared.plans.BodyPlan.{BodyPlan}
@@ -8,17 +8,16 @@ use Rattle.sq_outside.specs.Causes.{count_limit, Rose, TakesBack}
 use Rattle.sq_outside.specs.Dials.{Dialled}
 use Rattle.sq_head.specs.BodyPlans.{request_plan}
 use Rattle.sq_head.specs.OwnReplies.{error_text, denial}
-use Rattle.sq_head.specs.declared.faults.BadBody.{BadBody}
 use Rattle.sq_head.specs.declared.own.Own.{Own}
-use Rattle.sq_head.specs.declared.own.Own.TheVariants.{BadRequest, NotImplemented}
+use Rattle.sq_head.specs.declared.own.Own.TheVariants.{NotImplemented}
 use Rattle.sq_session.specs.Begins.{fits_hosts}
 use Rattle.sq_session.specs.Carrying.{sat}
-use Rattle.sq_session.specs.Fronts.{FrontAnswer, OfDecide, OfRewrite, OfSit, Decides, Rewrites, SitsFor, SitsBehind, takes_seat}
+use Rattle.sq_session.specs.Fronts.{FrontAnswer, OfDecide, OfRewrite, OfSit, Rewrites, SitsFor, SitsBehind, takes_seat}
 use Rattle.sq_session.specs.Sessions.{JudgesOf, held_seat}
 use Rattle.sq_session.specs.Steps.{Goes, EndHasCause, turn_seen, front_seen}
 use Rattle.sq_session.specs.Written.{WritesReply}
 use Rattle.sq_session.specs.Told.{ReachesTold, CarriesTold, ObeysTold, AnswersTold}
-use Rattle.sq_session.specs.Turns.{Reply, NoOrigin, access_of, is_head, is_connect, is_served, dialled, seated, carried, rewritten_on, denied_closes, stays_unless, recorded, body_own, judged, asked}
+use Rattle.sq_session.specs.Turns.{Reply, NoOrigin, access_of, is_head, is_connect, is_served, dialled, seated, carried, rewritten_on, denied_closes, stays_unless, recorded, judged, asked}
 use Rattle.sq_session.specs.declared.ends.Carried.{Carried}
 use Rattle.sq_session.specs.declared.ends.Carried.TheVariants.{Closes}
 use Rattle.sq_session.specs.declared.front.Decided.{Decided}
@@ -213,12 +212,13 @@ obeys_denied {left = Some rest} {d = Some now} {stood} r addr p j closes e same 
 }
 
 -- from the request on: to what is judged
-asked_judged : (r : HttpRequest) (addr : Address) (p : BodyPlan) (rest : List ℕ) (answers : List FrontAnswer)
+pub asked_judged : (r : HttpRequest) (addr : Address) (p : BodyPlan) (rest : List ℕ) (answers : List FrontAnswer)
     (reply : Reply) → fits_hosts r ≡ true → request_plan r ≡ Ok p
     → judged r addr p rest answers reply ≡ asked r addr rest answers reply
 asked_judged r addr p rest answers reply e f = rw (e, f) refl
 
-answers_own : {first : Option (List ℕ)} {d : Option Dialled} {stood stands : List FrontAnswer → Type 0}
+-- a request whose client hears this of the proxy
+pub answers_own : {first : Option (List ℕ)} {d : Option Dialled} {stood stands : List FrontAnswer → Type 0}
     {left a b : Option (List ℕ)} {failed : Type 0} {g h : ℕ} {ended : Carried} (r : HttpRequest) (addr : Address)
     (answers : List FrontAnswer) (own : Own)
     → ((rest : List ℕ) → asked r addr rest answers NoOrigin ≡ own_turn (error_text own (is_head r)) [] [] Closes)
@@ -241,46 +241,13 @@ answers_own {first = Some rest} {d = Some now} {left} {a} {b} {failed} {g} {h} {
       };
     }
 
--- Host fields that are refused
-pub answers_hosts : {first : Option (List ℕ)} {d : Option Dialled} {stood : List FrontAnswer → Type 0}
-    {left a b : Option (List ℕ)} {failed : Type 0} {g : ℕ} {ended : Carried} (r : HttpRequest) (addr : Address)
-    → fits_hosts r ≡ false → WritesReply (error_text BadRequest (is_head r)) Closes a b ended → g ≤ count_limit
-    → AnswersTold r addr first (front_seen stood stood) (turn_seen left a b g g d) d failed ended
-answers_hosts {stood} r addr e w few = answers_own r addr [] BadRequest (λ rest. rw e refl) tt (told_none stood) w few
-    refl
-
--- a body that is refused
-pub answers_body : {first : Option (List ℕ)} {d : Option Dialled} {stood : List FrontAnswer → Type 0}
-    {left a b : Option (List ℕ)} {failed : Type 0} {g : ℕ} {ended : Carried} (r : HttpRequest) (addr : Address)
-    (bad : BadBody) (own : Own)
-    → fits_hosts r ≡ true → request_plan r ≡ Err bad → own ≡ body_own bad
-    → WritesReply (error_text own (is_head r)) Closes a b ended → g ≤ count_limit
-    → AnswersTold r addr first (front_seen stood stood) (turn_seen left a b g g d) d failed ended
-answers_body {stood} r addr bad own e f same w few = answers_own r addr [] own (λ rest. rw (e, f, same) refl) tt
-    (told_none stood) w few refl
-
 -- no seat was asked for
-none_behind : (said : Decided) → SitsBehind said []
+pub none_behind : (said : Decided) → SitsBehind said []
 none_behind (decided.Record j) = tt
 none_behind (decided.Mismatch other) = tt
 none_behind (decided.Refused why) = tt
 none_behind decided.JournalFault = tt
 none_behind decided.WantOfMemory = tt
-
--- an answer of the front without a record
-pub answers_unjudged : {first : Option (List ℕ)} {d : Option Dialled} {stood stands : List FrontAnswer → Type 0}
-    {left a b : Option (List ℕ)} {failed : Type 0} {g h : ℕ} {ended : Carried} (r : HttpRequest) (addr : Address)
-    (p : BodyPlan) (said : Decided) (own : Own)
-    → fits_hosts r ≡ true → request_plan r ≡ Ok p
-    → ((rest : List ℕ) → judged r addr p rest (OfDecide r said ∷ []) NoOrigin
-    ≡ own_turn (error_text own (is_head r)) [] [] Closes) → Decides r said
-    → ((list : List FrontAnswer) → stood list → stands (list ++ OfDecide r said ∷ []))
-    → WritesReply (error_text own (is_head r)) Closes a b ended → g ≤ count_limit → h ≡ g
-    → AnswersTold r addr first (front_seen stood stands) (turn_seen left a b g h d) d failed ended
-answers_unjudged r addr p said own e f turn judges told w few same =
-    answers_own r addr (OfDecide r said ∷ []) own
-    (λ rest. sym (asked_judged r addr p rest (OfDecide r said ∷ []) NoOrigin e f) ∙ turn rest)
-    (refl, judges, none_behind said) told w few same
 
 -- a record, and what follows it
 pub answers_judged : {first : Option (List ℕ)} {before d : Option Dialled}

@@ -7,3 +7,4 @@ mod ServeLaws
 mod SessionLaws
 mod OwnReplyLaws
 mod TurnLaws
+mod VerdictLaws

@@ -1,13 +1,17 @@
 -- A session of its opening and its turns.
-use Rattle.std.proofs.Common.{◌≡◌, ◌⊎◌, inl, inr, ℕ, ◌≤◌, List, [], ◌∷◌, ◌++◌, true, Option, Some, None, Result, refl, sym, ap, subst, ◌∙◌, arith, append_assoc, append-nil}
+use Rattle.std.proofs.Common.{◌≡◌, ◌⊎◌, inl, inr, ℕ, ◌≤◌, List, [], ◌∷◌, ◌++◌, true, false, Option, Some, None, Result, refl, sym, ap, subst, ◌∙◌, arith, append_assoc, append-nil}
 use Rattle.sq_base.specs.Addresses.{Address}
 use Rattle.sq_outside.specs.Causes.{count_limit, Rose}
 use Rattle.sq_outside.specs.Dials.{Dialled}
+use Rattle.sq_head.specs.OwnReplies.{error_text}
+use Rattle.sq_head.specs.declared.own.Own.{Own}
+use Rattle.sq_head.specs.declared.own.Own.TheVariants.{Inner, Stopped, NoMemory, TooManyConns}
 use Rattle.sq_forward.specs.Meters.{granted_after}
 use Rattle.sq_session.specs.Fronts.{FrontAnswer, OfOpen, OfClose}
 use Rattle.sq_session.specs.Sessions.{answers_of, client_of, granted_of, ServesOpened, ClosesOpened, TellsWhole, TellsAs, SessionHasCause, dry_after_session, session_seen}
 use Rattle.sq_session.specs.Steps.{EndHasCause, dry_after, front_seen}
 use Rattle.sq_session.specs.Told.{ServesTold, SessionTold}
+use Rattle.sq_session.specs.Verdicts.{refusal_of}
 use Rattle.sq_session.specs.Written.{WritesReply}
 use Rattle.sq_session.specs.declared.ends.Carried.{Carried}
 use Rattle.sq_session.specs.declared.ends.Carried.TheVariants.{Stays, Closes, Over}
@@ -41,7 +45,7 @@ over_dry Starved = refl
 over_dry WantOfMemory = refl
 
 -- a connection that was opened
-pub session_in : {addr : Address} {port : ℕ} {first : Option (List ℕ)} {before now : Option Dialled}
+session_in : {addr : Address} {port : ℕ} {first : Option (List ℕ)} {before now : Option Dialled}
     {stood mid stands last : List FrontAnswer → Type 0} {a b : Option (List ℕ)} {failed : Type 0} {g h k n : ℕ}
     {end : End}
     → (c : Result (Unit {0}) CloseFault)
@@ -74,7 +78,7 @@ session_in {addr} {port} {first = Some input} {now = Some o} {stands} {last} c t
     }
 
 -- one that was not
-pub session_not : {addr : Address} {port : ℕ} {first : Option (List ℕ)} {d : Option Dialled}
+session_not : {addr : Address} {port : ℕ} {first : Option (List ℕ)} {d : Option Dialled}
     {stood stands : List FrontAnswer → Type 0} {a b : Option (List ℕ)} {failed : Type 0} {g h : ℕ} {end : End}
     (opening : Opened) (words : List ℕ)
     → ((input written : List ℕ) → TellsAs words written end → ServesOpened addr input opening [] written end)
@@ -99,6 +103,53 @@ session_not {first = Some input} {d = Some o} {g} opening words serves closes to
     granted = same ∙ granted_none true g few;
   };
 }
+
+-- by whether there is a reply
+
+pub session_opened : {addr : Address} {port : ℕ} {first : Option (List ℕ)} {before now : Option Dialled}
+    {stood mid stands last : List FrontAnswer → Type 0} {a b : Option (List ℕ)} {failed : Type 0} {g h k n : ℕ}
+    {end : End}
+    → (opening : Opened) (c : Result (Unit {0}) CloseFault) → refusal_of opening ≡ None
+    → ((list : List FrontAnswer) → stood list → mid (list ++ OfOpen addr port opening ∷ []))
+    → ((list : List FrontAnswer) → stands list → last (list ++ OfClose c ∷ [])) → g ≡ k → n ≡ h
+    → ServesTold addr first (front_seen mid stands) (session_seen a b g h before) now failed end
+    → SessionTold addr port first (front_seen stood last) (session_seen a b k n before) now failed end
+session_opened opened.In c e told closed same after x = session_in c told closed same after x
+session_opened opened.Full c e told closed same after x = absurd (cc)
+session_opened (opened.Refused why) c e told closed same after x = absurd (cc)
+session_opened opened.JournalFault c e told closed same after x = absurd (cc)
+session_opened opened.WantOfMemory c e told closed same after x = absurd (cc)
+
+serves_refused : (opening : Opened) (own : Own) (addr : Address) (input written : List ℕ) (end : End)
+    → refusal_of opening ≡ Some own → TellsAs (error_text own false) written end
+    → ServesOpened addr input opening [] written end
+serves_refused opened.In own addr input written end e t = absurd (cc)
+serves_refused opened.Full own addr input written end e t =
+    let same : own ≡ TooManyConns = cc in (refl, subst (λ o. TellsAs (error_text o false) written end) same t)
+serves_refused (opened.Refused why) own addr input written end e t =
+    let same : own ≡ Inner = cc in (refl, subst (λ o. TellsAs (error_text o false) written end) same t)
+serves_refused opened.JournalFault own addr input written end e t =
+    let same : own ≡ Stopped = cc in (refl, subst (λ o. TellsAs (error_text o false) written end) same t)
+serves_refused opened.WantOfMemory own addr input written end e t =
+    let same : own ≡ NoMemory = cc in (refl, subst (λ o. TellsAs (error_text o false) written end) same t)
+
+closes_refused : (opening : Opened) (own : Own) → refusal_of opening ≡ Some own → ClosesOpened opening []
+closes_refused opened.In own e = absurd (cc)
+closes_refused opened.Full own e = refl
+closes_refused (opened.Refused why) own e = refl
+closes_refused opened.JournalFault own e = refl
+closes_refused opened.WantOfMemory own e = refl
+
+pub session_refused : {addr : Address} {port : ℕ} {first : Option (List ℕ)} {d : Option Dialled}
+    {stood stands : List FrontAnswer → Type 0} {a b : Option (List ℕ)} {failed : Type 0} {g h : ℕ} {end : End}
+    (opening : Opened) (own : Own) → refusal_of opening ≡ Some own
+    → ((list : List FrontAnswer) → stood list → stands (list ++ OfOpen addr port opening ∷ []))
+    → TellsWhole (error_text own false) a b end → g ≤ count_limit → h ≡ g
+    → SessionTold addr port first (front_seen stood stands) (session_seen a b g h d) d failed end
+session_refused {addr} {end} opening own e told w few same =
+    session_not opening (error_text own false)
+    (λ input written t. serves_refused opening own addr input written end e t)
+    (closes_refused opening own e) told w few same
 
 -- a reply, as the session's end
 pub tells_end : {a b : Option (List ℕ)} {words : List ℕ} (ended : Carried) (end : End)

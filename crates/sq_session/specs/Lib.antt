@@ -7,3 +7,4 @@ pub mod Steps
 pub mod Written
 pub mod Told
 pub mod Turns
+pub mod Verdicts

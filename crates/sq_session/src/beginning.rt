@@ -5,10 +5,13 @@ ghost use Rattle.sq_outside.specs.Causes.{Rose};
 ghost use Rattle.sq_forward.specs.Halves.{to_come, read_limit};
 ghost use Rattle.sq_session.specs.Told.{BeginsTold};
 ghost use Rattle.sq_session.specs.Begins.{is_blank, ended_as, is_host, fits_hosts};
+ghost use Rattle.sq_session.specs.Verdicts.{heard_of};
 
+use crate::ends::{Carried, End};
 use http_header::HOST;
 use sq_base::{Field, Request};
 use sq_forward::{Half, HeadFound, find_head};
+use sq_head::Own;
 use sq_outside::Source;
 use sq_request::{BadRequest, read_request};
 use std::alloc::Global;
@@ -31,6 +34,32 @@ pub enum Begun {
     Failed,
     /// There was no memory.
     WantOfMemory,
+}
+
+/// What becomes of what an input begins with.
+#[derive(Drop)]
+pub(crate) enum Heard {
+    /// The request is answered.
+    Asks(Request),
+    /// The client gets this reply.
+    Refused(Own),
+    /// The turn ends so, and the client gets nothing.
+    Silent(Carried),
+}
+
+/// What becomes of what an input begins with.
+pub(crate) fn heard_of(begun: Begun) -> Heard
+    ensures { result ≡ heard_of begun }
+{
+    match begun {
+        Begun::Asks(request) => Heard::Asks(request),
+        Begun::Nothing => Heard::Silent(Carried::Closes),
+        Begun::Cut => Heard::Silent(Carried::Over(End::Cut)),
+        Begun::TooLarge => Heard::Refused(Own::HeadTooLarge),
+        Begun::Bad => Heard::Refused(Own::BadRequest),
+        Begun::Failed => Heard::Silent(Carried::Over(End::ClientFault)),
+        Begun::WantOfMemory => Heard::Refused(Own::NoMemory),
+    }
 }
 
 /// Reads the head of the next request. What follows it stays.

@@ -19,6 +19,7 @@ mod own_replies;
 mod rewriting;
 mod sessions;
 mod turning;
+mod verdicts;
 
 pub use beginning::Begun;
 pub use carrying::carry;

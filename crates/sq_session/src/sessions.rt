@@ -7,6 +7,7 @@ ghost use Rattle.sq_forward.specs.Halves.{to_come};
 ghost use Rattle.sq_session.specs.Told.{ServesTold, SessionTold};
 ghost use Rattle.sq_session.specs.Sessions.{TellsWhole, SessionHasCause, dry_after_session, session_seen};
 ghost use Rattle.sq_session.specs.Steps.{front_seen};
+ghost use Rattle.sq_session.specs.Verdicts.{refusal_of};
 
 use crate::ends::{Carried, End};
 use crate::front::{Front, Opened};
@@ -106,16 +107,26 @@ fn open<R: Threads + Wait + Sync, C: Ends, F: Front, D: Dialer>(
     ensures to_later { C.Outgo.Sink.faults client.old.to ≤ C.Outgo.Sink.faults client.new.to }
     ensures dialer_later { D.faults dialer.old ≤ D.faults dialer.new }
 {
-    match front.open(alloc, addr, port) {
-        Opened::In => {
+    match refusal_of(front.open(alloc, addr, port)) {
+        None => {
             let why = serve(rt, alloc, client, addr, front, dialer);
             let _closed = front.close();
             why
         }
-        Opened::Full => refuse(alloc, &mut client.to, Own::TooManyConns),
-        Opened::Refused(_) => refuse(alloc, &mut client.to, Own::Inner),
-        Opened::JournalFault => refuse(alloc, &mut client.to, Own::Stopped),
-        Opened::WantOfMemory => refuse(alloc, &mut client.to, Own::NoMemory),
+        Some(own) => refuse(alloc, &mut client.to, own),
+    }
+}
+
+// The reply to a connection that is not opened.
+fn refusal_of(opened: Opened) -> Option<Own>
+    ensures { result ≡ refusal_of opened }
+{
+    match opened {
+        Opened::In => None,
+        Opened::Full => Some(Own::TooManyConns),
+        Opened::Refused(_) => Some(Own::Inner),
+        Opened::JournalFault => Some(Own::Stopped),
+        Opened::WantOfMemory => Some(Own::NoMemory),
     }
 }
 

@@ -8,15 +8,15 @@ ghost use Rattle.sq_session.specs.Steps.{EndHasCause, WasTold, dry_after, turn_s
 ghost use Rattle.sq_session.specs.Told.{TurnTold, AnswersTold, ObeysTold};
 ghost use Rattle.sq_forward.specs.Exchanges.{message};
 
-use crate::beginning::{Begun, fits_hosts, next_request};
-use crate::ends::{Carried, End};
-use crate::front::{Decided, Front};
+use crate::beginning::{Heard, heard_of, next_request};
+use crate::ends::Carried;
+use crate::front::Front;
 use crate::judged::JudgedRequest;
-use crate::own_replies::{body_own, denied_closes, deny, is_head, say};
+use crate::own_replies::{denied_closes, deny, is_head, say};
 use crate::rewriting::go_on;
+use crate::verdicts::verdict;
 use sq_base::{Addr, Request};
 use sq_forward::{Duplex, Ends, Meter};
-use sq_head::{Own, request_plan};
 use sq_outside::Dialer;
 use std::alloc::Global;
 use std::sync::Wait;
@@ -52,14 +52,10 @@ pub(crate) fn turn<R: Threads + Wait + Sync, C: Ends, F: Front, D: Dialer>(
     ensures dialled { WasTold (D.dialled dialer.old) (D.dialled dialer.new) }
     ensures calls { CallsOnce (D.calls dialer.old) (D.calls dialer.new) }
 {
-    match next_request(rt, alloc, &mut client.from) {
-        Begun::Asks(request) => answer(rt, alloc, client, addr, &request, front, dialer),
-        Begun::Nothing => Carried::Closes,
-        Begun::Cut => Carried::Over(End::Cut),
-        Begun::TooLarge => say(alloc, &mut client.to, Own::HeadTooLarge, false),
-        Begun::Bad => say(alloc, &mut client.to, Own::BadRequest, false),
-        Begun::Failed => Carried::Over(End::ClientFault),
-        Begun::WantOfMemory => say(alloc, &mut client.to, Own::NoMemory, false),
+    match heard_of(next_request(rt, alloc, &mut client.from)) {
+        Heard::Asks(request) => answer(rt, alloc, client, addr, &request, front, dialer),
+        Heard::Refused(own) => say(alloc, &mut client.to, own, false),
+        Heard::Silent(ended) => ended,
     }
 }
 
@@ -94,15 +90,8 @@ fn answer<R: Threads + Wait + Sync, C: Ends, F: Front, D: Dialer>(
     ensures dialled { WasTold (D.dialled dialer.old) (D.dialled dialer.new) }
     ensures calls { CallsOnce (D.calls dialer.old) (D.calls dialer.new) }
 {
-    if !fits_hosts(request) {
-        return say(alloc, &mut client.to, Own::BadRequest, is_head(request));
-    }
-    let plan = match request_plan(request) {
-        Ok(plan) => plan,
-        Err(bad) => return say(alloc, &mut client.to, body_own(bad), is_head(request)),
-    };
-    match front.decide(alloc, request) {
-        Decided::Record(judged) => {
+    match verdict(alloc, request, front) {
+        Ok((judged, plan)) => {
             let request = JudgedRequest {
                 judged: &judged,
                 sent: request,
@@ -111,10 +100,7 @@ fn answer<R: Threads + Wait + Sync, C: Ends, F: Front, D: Dialer>(
             };
             obey(rt, alloc, client, &request, front, dialer)
         }
-        Decided::Mismatch { judged: _ } => say(alloc, &mut client.to, Own::Inner, is_head(request)),
-        Decided::Refused(_) => say(alloc, &mut client.to, Own::Inner, is_head(request)),
-        Decided::JournalFault => say(alloc, &mut client.to, Own::Stopped, is_head(request)),
-        Decided::WantOfMemory => say(alloc, &mut client.to, Own::NoMemory, is_head(request)),
+        Err(own) => say(alloc, &mut client.to, own, is_head(request)),
     }
 }
 
