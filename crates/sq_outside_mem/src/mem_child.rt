@@ -13,11 +13,13 @@ use memchr::memchr;
 use sq_outside::{Failed, Source};
 use std::thread;
 
-/// For what a process waits: it says each line once as many lines as it then has said were written to the wire.
-/// It ends where the wire was closed and has no such line, and after so many turns of waiting for one line.
+/// For what a process waits: it says each line once as many lines as it then has said were written to the wire, and to the
+/// other one, if there is one. It ends where one of them was closed and has no such line, and after so many turns of waiting
+/// for one line.
 #[derive(Drop)]
 pub struct MemWait<'a> {
     pub wire: &'a Wire,
+    pub other: Option<&'a Wire>,
     pub turns: u32,
 }
 
@@ -46,18 +48,40 @@ impl<'a> MemChildOut<'a> {
     }
 }
 
-/// Waits until this many lines and one more were written to the wire, and says whether they were.
-fn is_asked(wire: &Wire, said: usize, turns: u32) -> bool {
-    for _ in 0..turns {
-        // First whether it was closed: what was written before that is seen then.
-        let closed = wire.is_closed();
-        if wire.lines() > said {
-            return true;
+// What a wire has behind so many lines.
+#[derive(Clone, Copy)]
+enum Behind {
+    Line,
+    Nothing,
+    End,
+}
+
+// What a wire has behind this many lines.
+fn comes_behind(wire: &Wire, said: usize) -> Behind {
+    // First whether it was closed: what was written before that is seen then.
+    let closed = wire.is_closed();
+    if wire.lines() > said {
+        Behind::Line
+    } else if closed {
+        Behind::End
+    } else {
+        Behind::Nothing
+    }
+}
+
+/// Waits until this many lines and one more were written to the wires, and says whether they were.
+fn is_asked(wait: &MemWait<'_>, said: usize) -> bool {
+    for _ in 0..wait.turns {
+        let first = comes_behind(wait.wire, said);
+        let second = match wait.other {
+            Some(other) => comes_behind(other, said),
+            None => Behind::Line,
+        };
+        match (first, second) {
+            (Behind::Line, Behind::Line) => return true,
+            (Behind::End, _) | (_, Behind::End) => return false,
+            _ => thread::yield_now(),
         }
-        if closed {
-            return false;
-        }
-        thread::yield_now();
     }
     false
 }
@@ -100,7 +124,7 @@ impl<'a> Source for MemChildOut<'a> {
         let Some(wait) = &self.waits else {
             return self.source.read(into);
         };
-        if !is_asked(wait.wire, self.said, wait.turns) {
+        if !is_asked(wait, self.said) {
             return Ok(0);
         }
         let rest = line_rest(self.source.left());

@@ -44,7 +44,11 @@ pub fn spawner<'a, R: Abort>(
 ) -> MemSpawner<'a> {
     let words = words_of(rt, alloc, word);
     let pair = link(rt, alloc, lines, wire);
-    let waits = Some(MemWait { wire, turns: 10 });
+    let waits = Some(MemWait {
+        wire,
+        other: None,
+        turns: 10,
+    });
     let mut children = Vec::new(alloc);
     let child = MemChild { words, pair, waits };
     children.push(child).expect(rt, "memory");

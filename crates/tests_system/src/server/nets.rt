@@ -87,22 +87,23 @@ pub fn origins<'a>(
     origins
 }
 
-/// A program that says these lines, each once a line more was written to a wire, or ends after 20,000,000 turns of waiting.
-/// What it is asked goes over the other one.
+/// A program that says these lines, each once it was asked once more and a line more was written to another wire, or ends
+/// after 20,000,000 turns of waiting. What it is asked goes over the first wire.
 pub fn program<'a>(
     rt: &impl Abort,
     alloc: Global,
     name: &[u8],
     lines: &[u8],
-    asked: Option<&'a Wire>,
+    asked: &'a Wire,
     wire: Option<&'a Wire>,
 ) -> Vec<MemChild<'a>> {
     let mut words = Vec::new(alloc);
     let name = Text::from_slice(alloc, name).expect(rt, "a program");
     words.push(name).expect(rt, "a program");
-    let pair = pair(rt, alloc, lines, asked);
-    let waits = wire.map(|wire| MemWait {
-        wire,
+    let pair = pair(rt, alloc, lines, Some(asked));
+    let waits = Some(MemWait {
+        wire: asked,
+        other: wire,
         turns: 20_000_000,
     });
     let mut children = Vec::new(alloc);

@@ -174,23 +174,23 @@ fn run_over<R: Threads + Wait + Sync + Abort>(
     )
 }
 
-// Runs a server whose clients, whose origin and whose program that rewrites have these wires.
+// Runs a server whose clients, whose origin, whose helper and whose program that rewrites have these wires.
 fn run_with<'a, R: Threads + Wait + Sync + Abort>(
     rt: &R,
     alloc: Global,
     job: &Job<'_>,
     wires: &'a [Wire],
     origin: &'a Wire,
+    helper: &'a Wire,
     rewriter: &'a Wire,
     names: &'a [MemName],
     word: &'a AtomicBool,
 ) -> Came {
     let links = links(rt, alloc, job.clients, wires);
-    // The helper answers once the last client has a line.
-    let children = program(rt, alloc, b"/bin/h", b"OK\n", None, wires.last());
+    // The helper answers once it was asked and the last client has a line.
+    let children = program(rt, alloc, b"/bin/h", b"OK\n", helper, wires.last());
     let origins = origins(rt, alloc, job.origin, origin);
-    let asked = Some(rewriter);
-    let rewriters = program(rt, alloc, b"/bin/r", job.rewriter, asked, asked);
+    let rewriters = program(rt, alloc, b"/bin/r", job.rewriter, rewriter, None);
     let mut net = net(rt, alloc, links, origins, children, rewriters, names, word);
     run_over(rt, alloc, job, &mut net, wires, origin, rewriter)
 }
@@ -199,6 +199,7 @@ fn run_with<'a, R: Threads + Wait + Sync + Abort>(
 pub fn run<R: Threads + Wait + Sync + Abort>(rt: &R, alloc: Global, job: &Job<'_>) -> Came {
     let wires = wires(rt, alloc, job.clients);
     let origin = Wire::new(alloc, 4096).expect(rt, "a wire");
+    let helper = Wire::new(alloc, 4096).expect(rt, "a wire");
     let rewriter = Wire::new(alloc, 4096).expect(rt, "a wire");
     let names = names(rt, alloc, job.names);
     let word = AtomicBool::new(false);
@@ -208,6 +209,7 @@ pub fn run<R: Threads + Wait + Sync + Abort>(rt: &R, alloc: Global, job: &Job<'_
         job,
         wires.as_slice(),
         &origin,
+        &helper,
         &rewriter,
         names.as_slice(),
         &word,
