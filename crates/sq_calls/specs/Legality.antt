@@ -9,8 +9,8 @@ use Rattle.sq_machine.specs.Entries.{History}
 use Rattle.sq_machine.specs.Epochs.{class_at}
 use Rattle.sq_machine.specs.Machine.{Legal}
 use Rattle.sq_machine.specs.Readings.{current, offset_of}
-use Rattle.sq_model_laws.specs.Given.{EachOf}
-use Rattle.sq_model_state.specs.Sources.{AreSourced}
+use Rattle.sq_model.specs.Given.{EachOf}
+use Rattle.sq_model.specs.Sources.{AreSourced}
 
 -- with what a machine begins: its first configuration, and the offset of local time, in minutes
 pub record Beginning : Type 0 where

@@ -17,7 +17,7 @@ use sq_base::{Addr, CheckNo, ConnNo, EpochNo, Moment, ProcNo, Request, Texts, Wa
 use sq_channel::Got;
 use sq_checks::Record;
 use sq_machine::Act;
-use sq_model_rows::Stepped;
+use sq_model::Stepped;
 use sq_rules::Config;
 use sq_urlmatch::Setup;
 use std::alloc::Global;

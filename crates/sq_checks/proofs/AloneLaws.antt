@@ -7,7 +7,7 @@ use Rattle.sq_base.proofs.CommonLaws.{eq_turned}
 use Rattle.sq_base.specs.declared.helpers.Answer.{Answer}
 use Rattle.sq_machine.specs.Rising.{AreAbove, Rises}
 use Rattle.sq_machine.specs.StepRule.{StepSays}
-use Rattle.sq_model_rows.specs.CheckRows.{Ends, Held, after_ends, after_step, held_on, served, served_by, stepped, without_check, without_conn}
+use Rattle.sq_model.specs.CheckRows.{Ends, Held, after_ends, after_step, held_on, served, served_by, stepped, without_check, without_conn}
 use Rattle.sq_checks.specs.OpenChecks.{AreAlone}
 use Rattle.sq_checks.proofs.EpochLaws.{none_at}
 use Rattle.sq_checks.proofs.MapLaws.{number_is, self_number}

@@ -11,11 +11,11 @@ use Rattle.sq_rules.specs.Verdicts.{pool_of, verdict_over}
 use Rattle.sq_machine.specs.StepRule.{says_done}
 use Rattle.sq_rules.specs.declared.outcomes.Outcome.{Outcome}
 use Rattle.sq_rules.specs.declared.sights.Sight.{Sight}
-use Rattle.sq_model_rows.specs.CheckRows.{one_end, served, stepped}
-use Rattle.sq_model_rows.specs.StepRows.{question_told, told_of}
-use Rattle.sq_model_rows.specs.declared.stepping.StepEffect.{StepEffect}
-use Rattle.sq_model_rows.specs.declared.stepping.Stepped.{Stepped}
-use Rattle.sq_model_rows.specs.declared.stepping.Stepped.TheVariants as told
+use Rattle.sq_model.specs.CheckRows.{one_end, served, stepped}
+use Rattle.sq_model.specs.StepRows.{question_told, told_of}
+use Rattle.sq_model.specs.declared.stepping.StepEffect.{StepEffect}
+use Rattle.sq_model.specs.declared.stepping.Stepped.{Stepped}
+use Rattle.sq_model.specs.declared.stepping.Stepped.TheVariants as told
 use Rattle.sq_rules.specs.declared.values.Value.{Value}
 use Rattle.sq_rules.specs.declared.values.Value.TheVariants as value
 use Rattle.sq_frames.specs.Positions.{look_limit}

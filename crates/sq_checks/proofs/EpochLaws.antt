@@ -5,7 +5,7 @@ use Rattle.std.specs.Option.{option_and_then}
 use Rattle.sq_base.specs.declared.helpers.Answer.{Answer}
 use Rattle.sq_machine.specs.Rising.{AreAbove, Rises}
 use Rattle.sq_machine.specs.StepRule.{StepSays}
-use Rattle.sq_model_rows.specs.CheckRows.{Ends, Held, after_ends, after_step, held_at, served, served_by, stepped, without_check}
+use Rattle.sq_model.specs.CheckRows.{Ends, Held, after_ends, after_step, held_at, served, served_by, stepped, without_check}
 use Rattle.sq_checks.specs.OpenChecks.{of_epoch}
 use Rattle.sq_checks.proofs.MapLaws.{number_is}
 

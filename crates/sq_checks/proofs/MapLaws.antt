@@ -8,7 +8,7 @@ use Rattle.std.specs.Ordering.{nat_cmp, eq_by_cmp}
 use Rattle.std.specs.declared.cmp.Ordering.TheVariants.{Less, Equal, Greater}
 use Rattle.std.proofs.lemmas.Map.Keys.{IsDistinct-from_sorted}
 use Rattle.sq_machine.specs.Rising.{AreAbove, Rises}
-use Rattle.sq_model_rows.specs.CheckRows.{Held, without_check}
+use Rattle.sq_model.specs.CheckRows.{Held, without_check}
 use Rattle.sq_checks.specs.OpenChecks.{CheckParts, all_before, change_at, entry_row, row, rows_of, without_entry}
 use Rattle.sq_checks.specs.Tables.{value_at, without}
 use Rattle.sq_checks.proofs.TableLaws.{same_key}

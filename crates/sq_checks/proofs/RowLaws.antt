@@ -2,7 +2,7 @@
 use Rattle.std.proofs.Common.{◌≡◌, ◌∙◌, ℕ, List, [], ◌∷◌, Option, None, Some, refl, ap}
 use Rattle.sq_base.specs.declared.helpers.Answer.{Answer}
 use Rattle.sq_base.specs.declared.helpers.What.{What}
-use Rattle.sq_model_rows.specs.CheckRows.{Ends, Held, after_ends, one_end, served}
+use Rattle.sq_model.specs.CheckRows.{Ends, Held, after_ends, one_end, served}
 use Rattle.sq_checks.specs.OpenChecks.{AllFit, CheckParts, all_ended, both_ends, row, rows_of}
 use Rattle.sq_checks.proofs.CheckLaws.{row_ended}
 

@@ -14,8 +14,8 @@ use Rattle.sq_machine.specs.declared.entries.Told.{Told}
 use Rattle.sq_machine.specs.declared.entries.Told.TheVariants as told
 use Rattle.sq_machine.specs.declared.kept.CachedReply.{CachedReply}
 use Rattle.sq_rules.specs.declared.sights.Sight.{Sight}
-use Rattle.sq_model_rows.specs.CheckRows.{Held, after_step, is_told_done, stepped}
-use Rattle.sq_model_rows.specs.StepRows.{said_of, stepped_of, told_of}
+use Rattle.sq_model.specs.CheckRows.{Held, after_step, is_told_done, stepped}
+use Rattle.sq_model.specs.StepRows.{said_of, stepped_of, told_of}
 use Rattle.sq_machine.specs.AnswerReadings.{waits_told}
 use Rattle.sq_checks.specs.OpenChecks.{IsNoted, says_of}
 

@@ -18,9 +18,9 @@ use Rattle.sq_rules.specs.declared.outcomes.Outcome.{Outcome}
 use Rattle.sq_rules.specs.declared.sights.Sight.{Sight}
 use Rattle.sq_rules.specs.declared.values.Value.{Value}
 use Rattle.sq_rules.specs.declared.values.Value.TheVariants as value
-use Rattle.sq_model_rows.specs.CheckRows.{Ends, Held, held_on}
-use Rattle.sq_model_rows.specs.StepRows.{question_told, told_of}
-use Rattle.sq_model_rows.specs.declared.stepping.StepEffect.{StepEffect}
+use Rattle.sq_model.specs.CheckRows.{Ends, Held, held_on}
+use Rattle.sq_model.specs.StepRows.{question_told, told_of}
+use Rattle.sq_model.specs.declared.stepping.StepEffect.{StepEffect}
 use Rattle.sq_frames.specs.Positions.{look_limit}
 use Rattle.sq_frames.specs.Standing.{Standing}
 use Rattle.sq_checks.specs.Givens.{AreFrames, looks_over}

@@ -12,8 +12,8 @@ use Rattle.sq_rules.specs.declared.outcomes.Outcome.{Outcome}
 use Rattle.sq_rules.specs.declared.sights.Sight.{Sight}
 use Rattle.sq_rules.specs.declared.values.Value.TheVariants as value
 use Rattle.sq_machine.specs.StepRule.{class_of_acl}
-use Rattle.sq_model_rows.specs.declared.stepping.Stepped.{Stepped}
-use Rattle.sq_model_rows.specs.declared.stepping.Stepped.TheVariants as told
+use Rattle.sq_model.specs.declared.stepping.Stepped.{Stepped}
+use Rattle.sq_model.specs.declared.stepping.Stepped.TheVariants as told
 use Rattle.sq_checks.specs.Givens.{looks_over}
 use Rattle.sq_checks.specs.declared.stages.Need.{Need}
 use Rattle.sq_checks.specs.declared.stages.CheckStage.{CheckStage}

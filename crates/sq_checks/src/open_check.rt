@@ -23,7 +23,7 @@ use sq_base::{
 use sq_eval::pool_of;
 use sq_frames::{Frames, Slots};
 use sq_machine::LAST_NUMBER;
-use sq_model_rows::StepEffect;
+use sq_model::StepEffect;
 use sq_rules::{Config, Facts, Outcome, Sight, Value};
 use std::alloc::Global;
 use std::marker::Model;

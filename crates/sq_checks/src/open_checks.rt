@@ -3,7 +3,7 @@ ghost use Rattle.std.specs.Prelude.{◌≡◌, ◌<◌, ◌++◌, ◌∷◌, [],
 ghost use Rattle.std.specs.Option.{option_copied};
 ghost use Rattle.sq_base.specs.Distinct.{has_answer};
 ghost use Rattle.sq_lookup.specs.Waits.{has_check};
-ghost use Rattle.sq_model_rows.specs.CheckRows.{after_step, without_check};
+ghost use Rattle.sq_model.specs.CheckRows.{after_step, without_check};
 ghost use Rattle.sq_machine.specs.Events.{is_number};
 ghost use Rattle.sq_machine.specs.Rising.{Rises};
 ghost use Rattle.sq_machine.specs.StepRule.{class_of_acl, says_done};
@@ -17,7 +17,7 @@ ghost use Rattle.sq_checks.specs.Tables.{value_at};
 use crate::open_check::OpenCheck;
 use sq_base::{Cause, CheckNo, Moment, QuestionNo, Steps, Text, WantOfMemory, What};
 use sq_lookup::Checks;
-use sq_model_rows::StepEffect;
+use sq_model::StepEffect;
 use sq_rules::{Outcome, Value};
 use std::alloc::Global;
 use std::collections::BTreeMap;

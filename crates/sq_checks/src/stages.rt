@@ -4,7 +4,7 @@ ghost use Rattle.std.specs.Option.{option_copied};
 ghost use Rattle.sq_checks.specs.Stages.{came_in, decided_in, ended_stage, given, need_in, noted_stage, question_in};
 
 use sq_base::{Answer, Copying, Moment, QuestionNo, Text, WantOfMemory, What};
-use sq_model_rows::Stepped;
+use sq_model::Stepped;
 use sq_rules::Outcome;
 use std::alloc::Global;
 

@@ -10,7 +10,7 @@ use Rattle.sq_machine.specs.Farms.{Stock, Waiting, emptied, ended, failed, is_la
 use Rattle.sq_machine.specs.Living.{slots_in}
 use Rattle.sq_machine.specs.Losses.{Loss, first_lost, later_lost, lose, lose_all, times_lost}
 use Rattle.sq_machine.specs.OpenLookups.{LookupRow}
-use Rattle.sq_model_rows.specs.ClassRows.{ClassRow, after_death, after_failed, handed, is_waiting}
+use Rattle.sq_model.specs.ClassRows.{ClassRow, after_death, after_failed, handed, is_waiting}
 use Rattle.sq_class.specs.Losing.{handed_out, lost_cause}
 use Rattle.sq_class.proofs.HoldLaws.{itself}
 

@@ -13,9 +13,9 @@ use Rattle.sq_machine.specs.Marks.{Put}
 use Rattle.sq_machine.specs.OpenLookups.{WaitingChecks, pending_in, question_of}
 use Rattle.sq_machine.specs.StepRule.{StepSays, refresh, says_asked, says_fault, says_fresh, says_kept, says_need}
 use Rattle.sq_machine.specs.declared.kept.CachedReply.{CachedReply}
-use Rattle.sq_model_rows.specs.ClassRows.{ClassRow}
-use Rattle.sq_model_rows.specs.StepRows.{said_of, says_of_row}
-use Rattle.sq_model_rows.specs.declared.stepping.StepEffect.{StepEffect}
+use Rattle.sq_model.specs.ClassRows.{ClassRow}
+use Rattle.sq_model.specs.StepRows.{said_of, says_of_row}
+use Rattle.sq_model.specs.declared.stepping.StepEffect.{StepEffect}
 use Rattle.sq_class.specs.declared.faults.ResolveFault.{ResolveFault}
 use Rattle.sq_class.specs.Parts.{PartState}
 use Rattle.sq_class.specs.Steps.{IsSpent, IsStepped, says_open, says_taken, verdict_taken}

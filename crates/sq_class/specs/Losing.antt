@@ -5,7 +5,7 @@ use Rattle.sq_base.specs.declared.helpers.Cause.{Cause}
 use Rattle.sq_lookup.specs.Index.{IsListed}
 use Rattle.sq_machine.specs.Losses.{Loss, later_lost}
 use Rattle.sq_machine.specs.OpenLookups.{question_of, waits_in}
-use Rattle.sq_model_rows.specs.ClassRows.{ClassRow, handed}
+use Rattle.sq_model.specs.ClassRows.{ClassRow, handed}
 use Rattle.sq_class.specs.Parts.{PartState}
 use Rattle.sq_class.specs.declared.lost.Lost.{Lost}
 

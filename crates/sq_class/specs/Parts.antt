@@ -2,7 +2,7 @@
 use Rattle.std.specs.Prelude.{◌≡◌, ℕ, List, if◌then◌else◌}
 use Rattle.sq_machine.specs.Farms.{Stock, places}
 use Rattle.sq_machine.specs.OpenLookups.{LookupRow, WaitingChecks, is_open_lookup, question_of}
-use Rattle.sq_model_rows.specs.ClassRows.{ClassRow}
+use Rattle.sq_model.specs.ClassRows.{ClassRow}
 
 -- the class's row, the checks with the question that each waits for, and how many verdicts may be
 -- kept

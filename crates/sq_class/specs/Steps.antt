@@ -8,9 +8,9 @@ use Rattle.sq_machine.specs.Marks.{Put}
 use Rattle.sq_machine.specs.OpenLookups.{pending_in, question_of}
 use Rattle.sq_machine.specs.StepRule.{StepSays, refresh, says_asked, says_kept}
 use Rattle.sq_machine.specs.declared.kept.CachedReply.{CachedReply}
-use Rattle.sq_model_rows.specs.ClassRows.{ClassRow}
-use Rattle.sq_model_rows.specs.StepRows.{after_says, said_of}
-use Rattle.sq_model_rows.specs.declared.stepping.StepEffect.{StepEffect}
+use Rattle.sq_model.specs.ClassRows.{ClassRow}
+use Rattle.sq_model.specs.StepRows.{after_says, said_of}
+use Rattle.sq_model.specs.declared.stepping.StepEffect.{StepEffect}
 use Rattle.sq_class.specs.Parts.{PartState}
 
 -- a step of this check, of the class at this place, after so many questions, says so, is told so,

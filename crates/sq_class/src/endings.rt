@@ -7,7 +7,7 @@ ghost use Rattle.sq_machine.specs.KeptLists.{is_fault};
 ghost use Rattle.sq_machine.specs.KeptReadings.{keep_what};
 ghost use Rattle.sq_machine.specs.Living.{lives, slots_in};
 ghost use Rattle.sq_machine.specs.OpenLookups.{question_of, waits_in};
-ghost use Rattle.sq_model_rows.specs.ClassRows.{after_death, after_failed, after_reply, is_waiting};
+ghost use Rattle.sq_model.specs.ClassRows.{after_death, after_failed, after_reply, is_waiting};
 ghost use Rattle.sq_class.specs.Losing.{IsHandedOut, handed_out, lost_cause};
 
 use crate::lost::Lost;

@@ -3,7 +3,7 @@
 //! `Part::resolve` is the rule of a step on this class: a cached reply is taken, the check joins an open question or
 //! puts one, or a fault is taken. `send` and `start` make what is due, `started` and `start_failed` tell how a start
 //! ended, `look` says what a line of a process comes to, `reply` and `end` make its change, and `next_lost` hands the
-//! questions out that ended with a process or a start. Each call does to the class's row what `sq_model_rows` says, and no
+//! questions out that ended with a process or a start. Each call does to the class's row what `sq_model` says, and no
 //! more. A call that fails for want of memory changes nothing, and `send`, `start`, `end`, `start_failed`,
 //! `next_lost`, `leave` and `exchange_kept` take no memory.
 #![tactic(auto)]

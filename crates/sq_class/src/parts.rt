@@ -7,7 +7,7 @@ ghost use Rattle.sq_machine.specs.Channels.{is_open};
 ghost use Rattle.sq_machine.specs.Farms.{send_of, start_due};
 ghost use Rattle.sq_machine.specs.Living.{lives, slots_in};
 ghost use Rattle.sq_machine.specs.OpenLookups.{is_open_lookup, question_of};
-ghost use Rattle.sq_model_rows.specs.ClassRows.{after_sending, after_started, after_starting, new_row};
+ghost use Rattle.sq_model.specs.ClassRows.{after_sending, after_started, after_starting, new_row};
 
 use crate::sends::{Sending, as_sending};
 use sq_base::{CheckNo, ProcNo, QuestionNo, Text, WantOfMemory};

@@ -7,8 +7,8 @@ ghost use Rattle.sq_machine.specs.KeptLists.{is_fault};
 ghost use Rattle.sq_machine.specs.Limits.{last_number};
 ghost use Rattle.sq_machine.specs.OpenLookups.{all_below, pending_in, question_of};
 ghost use Rattle.sq_machine.specs.StepRule.{says_fault};
-ghost use Rattle.sq_model_rows.specs.ClassRows.{with_question};
-ghost use Rattle.sq_model_rows.specs.StepRows.{said_of, says_of_row};
+ghost use Rattle.sq_model.specs.ClassRows.{with_question};
+ghost use Rattle.sq_model.specs.StepRows.{said_of, says_of_row};
 ghost use Rattle.sq_class.specs.Parts.{IsAsBefore};
 ghost use Rattle.sq_class.specs.Steps.{IsSpent, IsStepped, may_put, says_open, says_taken};
 
@@ -17,7 +17,7 @@ use crate::parts::Part;
 use sq_base::{Answer, Cause, CheckNo, Copying, Moment, QuestionNo, Text, WantOfMemory, What};
 use sq_cache::Taken;
 use sq_machine::LAST_NUMBER;
-use sq_model_rows::{StepEffect, Stepped};
+use sq_model::{StepEffect, Stepped};
 use sq_rules::Class;
 use std::alloc::Global;
 

@@ -2,7 +2,7 @@
 use Rattle.std.proofs.Common.{◌≡◌, inr, ℕ, ◌+◌, ◌<◌, ◌≤◌, ◌==◌, List, [], ◌∷◌, ◌++◌, length, Bool, false, bytes_eq, if◌then◌else◌, Option, Some, None, refl, ap, ◌∙◌, arith}
 use Rattle.std.proofs.lemmas.Bool.Decides.{nat_tests}
 use Rattle.sq_outside.specs.Told.{Opening, Openings, Texts}
-use Rattle.sq_model_laws.proofs.ClassParts.{bytes_itself, itself}
+use Rattle.sq_model.proofs.ClassParts.{bytes_itself, itself}
 use Rattle.sq_replay.specs.Runs.{StandOn, Tells}
 use Rattle.sq_commands.specs.Opened.{BeginsWith, behind_first, first_text, shelf_over}
 

@@ -7,7 +7,7 @@ use Rattle.sq_rules.specs.Configurations.{Configuration}
 use Rattle.sq_machine.specs.Entries.{History}
 use Rattle.sq_machine.specs.Farms.{full}
 use Rattle.sq_machine.specs.Limits.{last_number}
-use Rattle.sq_model_state.specs.States.{State}
+use Rattle.sq_model.specs.States.{State}
 use Rattle.sq_rewrite.proofs.WorkLaws.{calls_more, run_more, taken_fits, taken_known}
 use Rattle.sq_rewrite.specs.Calls.{Took}
 use Rattle.sq_rewrite.specs.Rewritings.{MayBecome}

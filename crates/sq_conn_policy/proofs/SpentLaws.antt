@@ -3,7 +3,7 @@ use Rattle.std.proofs.Common.{◌≡◌, ℕ, suc, List, [], ◌∷◌, ◌++◌
 use Rattle.std.proofs.lemmas.Bool.Decides.{nat_tests}
 use Rattle.std.specs.List.{list_all}
 use Rattle.sq_base.specs.Requests.{HttpRequest}
-use Rattle.sq_model_laws.proofs.LegalLaws.{marked_entries}
+use Rattle.sq_model.proofs.LegalLaws.{marked_entries}
 use Rattle.sq_machine.proofs.CheckLaws.{check_open_begun, check_open_kept, is_done_more, none_numbered, open_born}
 use Rattle.sq_machine.specs.Checks.{ask_count, check_open, closes, conn_of, is_done, open_check}
 use Rattle.sq_rules.specs.Configurations.{Configuration}

@@ -22,7 +22,7 @@ use Rattle.sq_session.specs.declared.front.Opened.TheVariants as opened
 use Rattle.sq_session.specs.declared.front.SitFault.{SitFault}
 use Rattle.sq_session.specs.declared.front.Rewritten.{Rewritten}
 use Rattle.sq_session.specs.declared.front.Rewritten.TheVariants as rewritten
-use Rattle.sq_model_state.specs.States.{IsSame}
+use Rattle.sq_model.specs.States.{IsSame}
 use Rattle.sq_rewrite.proofs.WorkLaws.{runs_more, state_more}
 use Rattle.sq_rewrite.specs.Calls.{Calls}
 use Rattle.sq_rewrite.specs.States.{RewriteState, RunsOn, after_calls, is_of_processes}

@@ -3,8 +3,8 @@ use Rattle.std.proofs.Common.{◌≡◌, ◌⊎◌, inl, inr, ℕ, List, [], ◌
 use Rattle.std.specs.List.{list_all}
 use Rattle.std.proofs.lemmas.List.Folds.{list_all-append}
 use Rattle.sq_checks.specs.Records.{Judged}
-use Rattle.sq_model_rows.specs.declared.stepping.Stepped.{Stepped}
-use Rattle.sq_model_rows.specs.declared.stepping.Stepped.TheVariants as stepped
+use Rattle.sq_model.specs.declared.stepping.Stepped.{Stepped}
+use Rattle.sq_model.specs.declared.stepping.Stepped.TheVariants as stepped
 use Rattle.sq_machine.specs.Checks.{check_open, is_done}
 use Rattle.sq_rules.specs.Configurations.{Configuration}
 use Rattle.sq_machine.specs.Entries.{History, Noted, entry_at}
@@ -16,8 +16,8 @@ use Rattle.sq_machine.specs.declared.entries.Event.TheVariants as event
 use Rattle.sq_machine.specs.declared.entries.Told.{Told}
 use Rattle.sq_machine.specs.declared.entries.Told.TheVariants as told
 use Rattle.sq_machine.specs.declared.refusals.Refusal.{Refusal}
-use Rattle.sq_model_state.proofs.Lawful.{stands_same}
-use Rattle.sq_model_state.specs.States.{IsSame, State}
+use Rattle.sq_model.proofs.Lawful.{stands_same}
+use Rattle.sq_model.specs.States.{IsSame, State}
 use Rattle.sq_conn_policy.proofs.WorkLaws.{works_before, works_self, works_then}
 use Rattle.sq_conn_policy.proofs.SpentLaws.{done_now, first_of, second_of, stays_open, step_spent, take_spent}
 use Rattle.sq_conn_policy.specs.Judging.{Finishes, GoesOn, IsForLastNumber, goes_on}

@@ -10,7 +10,7 @@ use Rattle.sq_session.specs.declared.front.Decided.{Decided}
 use Rattle.sq_session.specs.declared.front.Decided.TheVariants as decided
 use Rattle.sq_session.specs.declared.front.Opened.{Opened}
 use Rattle.sq_session.specs.declared.front.Opened.TheVariants as opened
-use Rattle.sq_model_state.specs.States.{State}
+use Rattle.sq_model.specs.States.{State}
 use Rattle.sq_rewrite.specs.States.{RewriteState}
 use Rattle.sq_conn_policy.specs.declared.hub.HubFault.{HubFault}
 use Rattle.sq_conn_policy.specs.declared.hub.HubFault.TheVariants.{Refused, JournalFault, WantOfMemory}

@@ -40,7 +40,7 @@ use Rattle.sq_session.specs.declared.front.Rewritten.{Rewritten}
 use Rattle.sq_session.specs.declared.front.Rewritten.TheVariants as rewritten
 use Rattle.sq_session.specs.declared.front.SitFault.{SitFault}
 use Rattle.sq_session.specs.declared.front.SitFault.TheVariants as sit
-use Rattle.sq_model_state.specs.States.{IsSame, State}
+use Rattle.sq_model.specs.States.{IsSame, State}
 use Rattle.sq_conn_policy.specs.Tellings.{AreKept, Chooses, ChoosesTag, Grants, GrantsTag, HubState, IsNext, IsOfCheck, IsRefused, Leaves, LeavesTag, StandsAt, Works, asks_for, is_outside, machine_now, puts_for}
 use Rattle.sq_conn_policy.specs.declared.hub.HubFault.{HubFault}
 use Rattle.sq_conn_policy.specs.declared.hub.HubFault.TheVariants.{Refused, JournalFault, WantOfMemory}

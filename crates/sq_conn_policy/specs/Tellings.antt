@@ -27,14 +27,14 @@ use Rattle.sq_rewrite.specs.declared.faults.RewriteFault.{RewriteFault}
 use Rattle.sq_rewrite.specs.declared.faults.RewriteFault.TheVariants as fault
 use Rattle.sq_rewrite.specs.declared.rewritings.Rewriting.{Rewriting}
 use Rattle.sq_rules.specs.declared.sights.Sight.{Sight}
-use Rattle.sq_model_rows.specs.declared.stepping.Stepped.{Stepped}
-use Rattle.sq_model_rows.specs.declared.stepping.Stepped.TheVariants as stepped
+use Rattle.sq_model.specs.declared.stepping.Stepped.{Stepped}
+use Rattle.sq_model.specs.declared.stepping.Stepped.TheVariants as stepped
 use Rattle.sq_checks.specs.Records.{Judged}
 use Rattle.sq_pools.specs.Basins.{Basin, HasLeft, IsChosen, IsGranted, IsTagChosen, grant_in, seat_in}
 use Rattle.sq_pools.specs.declared.pools.ChooseFault.{ChooseFault}
 use Rattle.sq_pools.specs.declared.pools.ChooseFault.TheVariants as choose
-use Rattle.sq_model_state.specs.Promises.{StandsFor}
-use Rattle.sq_model_state.specs.States.{IsSame, State}
+use Rattle.sq_model.specs.Promises.{StandsFor}
+use Rattle.sq_model.specs.States.{IsSame, State}
 use Rattle.sq_conn_policy.specs.declared.hub.HubFault.{HubFault}
 use Rattle.sq_conn_policy.specs.declared.hub.HubFault.TheVariants.{Refused, JournalFault, WantOfMemory}
 

@@ -10,7 +10,7 @@ ghost use Rattle.sq_conn_policy.specs.Tellings.{HubState, Tells, MakesOn, Asks, 
 use sq_base::{Addr, CheckNo, ConnNo, EpochNo, QuestionNo, Request, Text};
 use sq_checks::Record;
 use sq_machine::Refusal;
-use sq_model_rows::Stepped;
+use sq_model::Stepped;
 use sq_pools::{ChooseFault, Seat, TagSeat};
 use sq_rewrite::{RewriteFault, Rewriting};
 use sq_rules::Config;

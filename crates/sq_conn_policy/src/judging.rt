@@ -12,7 +12,7 @@ use crate::same::same_request;
 use sq_base::{CheckNo, ConnNo, Copying, Request, WantOfMemory};
 use sq_checks::Record;
 use sq_machine::Refusal;
-use sq_model_rows::Stepped;
+use sq_model::Stepped;
 use sq_session::Decided;
 use std::alloc::Global;
 use std::sync::Wait;

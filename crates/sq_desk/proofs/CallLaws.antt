@@ -1,6 +1,6 @@
 -- States that are the same.
 use Rattle.std.proofs.Common.{◌≡◌, refl, subst}
-use Rattle.sq_model_state.specs.States.{IsSame, State}
+use Rattle.sq_model.specs.States.{IsSame, State}
 use Rattle.sq_engine.specs.EngineViews.{EngineView, state_of}
 
 -- a state is itself

@@ -31,16 +31,16 @@ use Rattle.sq_channel.specs.declared.replies.Got.TheVariants as got
 use Rattle.sq_checks.specs.Conns.{client_in}
 use Rattle.sq_checks.specs.Records.{Judged}
 use Rattle.sq_checks.specs.declared.conns.Link.{Link}
-use Rattle.sq_model_rows.specs.CheckRows.{Held, held_at, without_check, without_conn}
-use Rattle.sq_model_rows.specs.declared.stepping.Stepped.{Stepped}
+use Rattle.sq_model.specs.CheckRows.{Held, held_at, without_check, without_conn}
+use Rattle.sq_model.specs.declared.stepping.Stepped.{Stepped}
 use Rattle.sq_epochs.specs.EpochStates.{home_at}
 use Rattle.sq_machine.specs.declared.acts.Act.{Act}
-use Rattle.sq_model_state.specs.Answers.{ask_answer, asked_in, busy_in, close_answer, died_answer, failed_answer, name_in, open_answer, reconfigure_answer, started_answer, take_answer, take_of_held}
-use Rattle.sq_model_state.specs.Changes.{after_ask, after_close, after_end_at, after_failed_at, after_open, after_reconfigured, after_started_at, after_take, at, first_state, with_epoch}
-use Rattle.sq_model_state.specs.Promises.{IsAnswered}
-use Rattle.sq_model_state.specs.Says.{outcome_in}
-use Rattle.sq_model_state.specs.States.{IsSame, State}
-use Rattle.sq_model_state.proofs.ActPromises.{reconfigure_answered}
+use Rattle.sq_model.specs.Answers.{ask_answer, asked_in, busy_in, close_answer, died_answer, failed_answer, name_in, open_answer, reconfigure_answer, started_answer, take_answer, take_of_held}
+use Rattle.sq_model.specs.Changes.{after_ask, after_close, after_end_at, after_failed_at, after_open, after_reconfigured, after_started_at, after_take, at, first_state, with_epoch}
+use Rattle.sq_model.specs.Promises.{IsAnswered}
+use Rattle.sq_model.specs.Says.{outcome_in}
+use Rattle.sq_model.specs.States.{IsSame, State}
+use Rattle.sq_model.proofs.ActPromises.{reconfigure_answered}
 use Rattle.sq_engine.specs.Acting.{IsActPromised, after_act, due_now, told_of_act}
 use Rattle.sq_engine.specs.Lines.{IsLineDone, got_told}
 use Rattle.sq_engine.specs.Promised.{IsBegun}

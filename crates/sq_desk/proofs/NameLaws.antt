@@ -9,13 +9,13 @@ use Rattle.sq_machine.specs.DueActs.{ClassId}
 use Rattle.sq_machine.specs.Entries.{History}
 use Rattle.sq_machine.specs.Marking.{marked}
 use Rattle.sq_machine.specs.Marks.{Past}
-use Rattle.sq_model_rows.specs.ClassRows.{ClassRow}
-use Rattle.sq_model_state.specs.Answers.{failed_answer, has_start_in, name_in, started_answer}
-use Rattle.sq_model_state.specs.Changes.{after_failed_at, after_started_at}
-use Rattle.sq_model_state.specs.States.{State, Stands}
-use Rattle.sq_model_state.proofs.ActNext.{name_is}
-use Rattle.sq_model_state.proofs.ActStands.{IsClassRow, is_class_row}
-use Rattle.sq_model_state.proofs.StartStands.{not_refused}
+use Rattle.sq_model.specs.ClassRows.{ClassRow}
+use Rattle.sq_model.specs.Answers.{failed_answer, has_start_in, name_in, started_answer}
+use Rattle.sq_model.specs.Changes.{after_failed_at, after_started_at}
+use Rattle.sq_model.specs.States.{State, Stands}
+use Rattle.sq_model.proofs.ActNext.{name_is}
+use Rattle.sq_model.proofs.ActStands.{IsClassRow, is_class_row}
+use Rattle.sq_model.proofs.StartStands.{not_refused}
 use Rattle.sq_engine.specs.EngineViews.{state_of}
 use Rattle.sq_calls.specs.Legality.{Beginning, HasName, IsNameOf, configs_over}
 use Rattle.sq_calls.specs.declared.faults.DeskFault.{DeskFault}

@@ -24,16 +24,16 @@ use Rattle.sq_checks.specs.OpenChecks.{CheckParts, row}
 use Rattle.sq_checks.specs.Records.{Judged, judged_of}
 use Rattle.sq_checks.specs.Tables.{value_at}
 use Rattle.sq_machine.specs.declared.acts.Act.{Act}
-use Rattle.sq_model_rows.specs.CheckRows.{held_at}
-use Rattle.sq_model_rows.specs.declared.stepping.Stepped.{Stepped}
-use Rattle.sq_model_state.specs.Answers.{ask_answer, asked_in, close_answer, died_answer, failed_answer, line_answer, name_in, open_answer, reconfigure_answer, started_answer, take_answer, take_of_held}
-use Rattle.sq_model_state.specs.Changes.{after_ask, after_failed_at, after_started_at}
-use Rattle.sq_model_state.specs.Promises.{StandsFor}
-use Rattle.sq_model_state.specs.States.{IsSame, State}
-use Rattle.sq_model_state.proofs.ConnStands.{close_next, open_next, take_next}
-use Rattle.sq_model_state.proofs.LinePromises.{died_told, line_told_to}
-use Rattle.sq_model_state.proofs.PromiseLaws.{next_now}
-use Rattle.sq_model_state.proofs.ReconfigureStands.{reconfigure_next}
+use Rattle.sq_model.specs.CheckRows.{held_at}
+use Rattle.sq_model.specs.declared.stepping.Stepped.{Stepped}
+use Rattle.sq_model.specs.Answers.{ask_answer, asked_in, close_answer, died_answer, failed_answer, line_answer, name_in, open_answer, reconfigure_answer, started_answer, take_answer, take_of_held}
+use Rattle.sq_model.specs.Changes.{after_ask, after_failed_at, after_started_at}
+use Rattle.sq_model.specs.Promises.{StandsFor}
+use Rattle.sq_model.specs.States.{IsSame, State}
+use Rattle.sq_model.proofs.ConnStands.{close_next, open_next, take_next}
+use Rattle.sq_model.proofs.LinePromises.{died_told, line_told_to}
+use Rattle.sq_model.proofs.PromiseLaws.{next_now}
+use Rattle.sq_model.proofs.ReconfigureStands.{reconfigure_next}
 use Rattle.sq_engine.specs.Acting.{IsActPromised, told_of_act}
 use Rattle.sq_engine.specs.EngineViews.{EngineView, state_of}
 use Rattle.sq_engine.specs.Promised.{IsPromised, IsPromisedAt}

@@ -17,11 +17,11 @@ use Rattle.sq_machine.specs.Marking.{marked}
 use Rattle.sq_machine.specs.Marks.{entries}
 use Rattle.sq_machine.specs.Readings.{current, epoch_after, latest, offset_after, offset_of}
 use Rattle.sq_machine.proofs.ReadingLaws.{offset_of_more}
-use Rattle.sq_model_laws.specs.Given.{EachOf}
-use Rattle.sq_model_laws.proofs.LegalLaws.{marked_entries}
-use Rattle.sq_model_state.specs.Promises.{IsAnswered, StandsFor}
-use Rattle.sq_model_state.specs.States.{IsSame, State, is_of_pools, machine_moment}
-use Rattle.sq_model_state.proofs.Lawful.{stands_same}
+use Rattle.sq_model.specs.Given.{EachOf}
+use Rattle.sq_model.proofs.LegalLaws.{marked_entries}
+use Rattle.sq_model.specs.Promises.{IsAnswered, StandsFor}
+use Rattle.sq_model.specs.States.{IsSame, State, is_of_pools, machine_moment}
+use Rattle.sq_model.proofs.Lawful.{stands_same}
 use Rattle.sq_engine.specs.EngineViews.{state_of}
 use Rattle.sq_engine.specs.Promised.{IsBegun}
 use Rattle.sq_journal_writers.specs.Noting.{with_entry}

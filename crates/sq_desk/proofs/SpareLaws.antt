@@ -7,10 +7,10 @@ use Rattle.std.proofs.lemmas.Cmp.{nat_eq_equiv}
 use Rattle.std.proofs.lemmas.Map.Keys.{IsDistinct-cons, IsDistinct-from_apart}
 use Rattle.std.proofs.lemmas.Map.Made.{length-le_from_is_member}
 use Rattle.sq_machine.specs.DueActs.{ClassId}
-use Rattle.sq_model_rows.specs.CheckRows.{Held}
+use Rattle.sq_model.specs.CheckRows.{Held}
 use Rattle.sq_epochs.specs.HomeStates.{Home, home_in, home_number}
-use Rattle.sq_model_state.specs.Changes.{if_live, with_checks}
-use Rattle.sq_model_state.specs.States.{IsSame, State}
+use Rattle.sq_model.specs.Changes.{if_live, with_checks}
+use Rattle.sq_model.specs.States.{IsSame, State}
 use Rattle.sq_engine.specs.EngineViews.{EngineView, state_of}
 use Rattle.sq_desk.specs.Calling.{load_of}
 use Rattle.sq_desk.specs.Desks.{HasSpare}

@@ -18,15 +18,15 @@ use Rattle.sq_machine.specs.Entries.{History, entry_at}
 use Rattle.sq_machine.specs.Next.{Next, gives, nothing, refuses}
 use Rattle.sq_channel.specs.declared.replies.Got.{Got}
 use Rattle.sq_channel.specs.declared.replies.Got.TheVariants as got
-use Rattle.sq_model_rows.specs.declared.stepping.Stepped.{Stepped}
-use Rattle.sq_model_rows.specs.declared.stepping.Stepped.TheVariants as stepped
+use Rattle.sq_model.specs.declared.stepping.Stepped.{Stepped}
+use Rattle.sq_model.specs.declared.stepping.Stepped.TheVariants as stepped
 use Rattle.sq_machine.specs.declared.acts.Act.{Act}
 use Rattle.sq_machine.specs.declared.acts.Act.TheVariants as act
 use Rattle.sq_checks.specs.Records.{Judged}
-use Rattle.sq_model_state.specs.Answers.{ask_answer, asked_in, close_answer, died_answer, failed_answer, line_answer, name_in, open_answer, reconfigure_answer, started_answer, take_answer}
-use Rattle.sq_model_state.specs.Changes.{after_ask, after_close, after_failed_at, after_open, after_started_at, after_take}
-use Rattle.sq_model_state.specs.Says.{class_in}
-use Rattle.sq_model_state.specs.States.{State}
+use Rattle.sq_model.specs.Answers.{ask_answer, asked_in, close_answer, died_answer, failed_answer, line_answer, name_in, open_answer, reconfigure_answer, started_answer, take_answer}
+use Rattle.sq_model.specs.Changes.{after_ask, after_close, after_failed_at, after_open, after_started_at, after_take}
+use Rattle.sq_model.specs.Says.{class_in}
+use Rattle.sq_model.specs.States.{State}
 use Rattle.sq_engine.proofs.ConfigLaws.{acted_config}
 use Rattle.sq_engine.specs.Acting.{IsActPromised, due_now, told_of_act}
 use Rattle.sq_engine.specs.EngineViews.{state_of}

@@ -19,10 +19,10 @@ use Rattle.sq_channel.specs.declared.replies.Got.{Got}
 use Rattle.sq_channel.specs.declared.replies.Got.TheVariants as got
 use Rattle.sq_epochs.specs.DueStates.{told_act}
 use Rattle.sq_machine.specs.declared.acts.Act.{Act}
-use Rattle.sq_model_state.specs.Answers.{line_answer, reconfigure_answer}
-use Rattle.sq_model_state.specs.Changes.{after_end_at, after_reconfigured, first_state}
-use Rattle.sq_model_state.specs.Promises.{IsAnswered, StandsFor}
-use Rattle.sq_model_state.specs.States.{IsSame, State}
+use Rattle.sq_model.specs.Answers.{line_answer, reconfigure_answer}
+use Rattle.sq_model.specs.Changes.{after_end_at, after_reconfigured, first_state}
+use Rattle.sq_model.specs.Promises.{IsAnswered, StandsFor}
+use Rattle.sq_model.specs.States.{IsSame, State}
 use Rattle.sq_engine.specs.Acting.{after_act, due_now, told_of_act}
 use Rattle.sq_engine.specs.EngineViews.{EngineView, state_of}
 use Rattle.sq_engine.specs.Lines.{IsLineDone, got_told}

@@ -5,9 +5,9 @@ use Rattle.std.specs.Set.{is_member}
 use Rattle.sq_rules.specs.Configurations.{Configuration, IsConfiguration}
 use Rattle.sq_machine.specs.Entries.{History}
 use Rattle.sq_machine.specs.Readings.{current, latest, offset_of}
-use Rattle.sq_model_laws.specs.Given.{EachOf}
-use Rattle.sq_model_state.specs.Promises.{StandsFor}
-use Rattle.sq_model_state.specs.States.{State}
+use Rattle.sq_model.specs.Given.{EachOf}
+use Rattle.sq_model.specs.Promises.{StandsFor}
+use Rattle.sq_model.specs.States.{State}
 use Rattle.sq_engine.specs.EngineViews.{EngineView, state_of}
 use Rattle.sq_calls.specs.Legality.{Beginning, IsLegal, IsStated}
 use Rattle.sq_desk.specs.Noting.{Notebook}

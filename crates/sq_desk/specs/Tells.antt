@@ -12,7 +12,7 @@ use Rattle.sq_machine.specs.DueActs.{ClassId}
 use Rattle.sq_machine.specs.Entries.{History}
 use Rattle.sq_channel.specs.declared.replies.Got.{Got}
 use Rattle.sq_machine.specs.declared.acts.Act.{Act}
-use Rattle.sq_model_state.specs.Says.{class_in}
+use Rattle.sq_model.specs.Says.{class_in}
 use Rattle.sq_engine.specs.EngineViews.{state_of}
 use Rattle.sq_calls.specs.declared.faults.DeskFault.{DeskFault}
 use Rattle.sq_calls.specs.Legality.{Beginning, IsNameOf}

@@ -4,8 +4,8 @@ ghost use Rattle.sq_calls.specs.declared.faults.DeskFault.TheVariants as fault;
 ghost use Rattle.sq_checks.specs.Conns.{client_in};
 ghost use Rattle.sq_machine.specs.declared.entries.Event.TheVariants as event;
 ghost use Rattle.sq_machine.specs.declared.entries.Told.TheVariants as told;
-ghost use Rattle.sq_model_state.specs.Answers.{close_answer, open_answer};
-ghost use Rattle.sq_model_state.specs.Changes.{after_close, after_open};
+ghost use Rattle.sq_model.specs.Answers.{close_answer, open_answer};
+ghost use Rattle.sq_model.specs.Changes.{after_close, after_open};
 ghost use Rattle.sq_engine.specs.EngineViews.{state_of};
 ghost use Rattle.sq_desk.specs.Calling.{Leaves, Makes, desk_of, load_of};
 

@@ -4,7 +4,7 @@ ghost use Rattle.sq_calls.specs.declared.faults.DeskFault.TheVariants as fault;
 ghost use Rattle.sq_epochs.specs.EpochStates.{home_at};
 ghost use Rattle.sq_machine.specs.declared.entries.Event.TheVariants as event;
 ghost use Rattle.sq_machine.specs.declared.entries.Told.TheVariants as told;
-ghost use Rattle.sq_model_state.specs.Answers.{died_answer};
+ghost use Rattle.sq_model.specs.Answers.{died_answer};
 ghost use Rattle.sq_engine.specs.EngineViews.{state_of};
 ghost use Rattle.sq_desk.specs.Calling.{Leaves, Makes, after_died, desk_of};
 

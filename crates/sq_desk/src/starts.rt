@@ -2,8 +2,8 @@
 ghost use Rattle.std.specs.Prelude.{◌+◌, max};
 ghost use Rattle.sq_machine.specs.declared.entries.Event.TheVariants as event;
 ghost use Rattle.sq_machine.specs.declared.entries.Told.TheVariants as told;
-ghost use Rattle.sq_model_state.specs.Answers.{failed_answer, name_in, started_answer};
-ghost use Rattle.sq_model_state.specs.Changes.{after_failed_at, after_started_at};
+ghost use Rattle.sq_model.specs.Answers.{failed_answer, name_in, started_answer};
+ghost use Rattle.sq_model.specs.Changes.{after_failed_at, after_started_at};
 ghost use Rattle.sq_engine.specs.EngineViews.{state_of};
 ghost use Rattle.sq_desk.specs.Calling.{Leaves, Makes, desk_of, load_of};
 

@@ -1,7 +1,7 @@
 //! Checks go on.
 ghost use Rattle.std.specs.Prelude.{◌≡◌, ◌+◌, ◌≤◌, [], max, vec_len, vec_capacity, IfOk};
 ghost use Rattle.sq_machine.specs.declared.entries.Event.TheVariants as event;
-ghost use Rattle.sq_model_state.specs.Answers.{name_in};
+ghost use Rattle.sq_model.specs.Answers.{name_in};
 ghost use Rattle.sq_engine.specs.EngineViews.{state_of};
 ghost use Rattle.sq_engine.specs.Stepping.{after_step_now, epoch_of, step_now, stepped_told};
 ghost use Rattle.sq_desk.specs.Calling.{Leaves, Makes, desk_of, load_of};
@@ -12,7 +12,7 @@ use sq_calls::DeskFault;
 use sq_engine::Engine;
 use sq_journal_writers::Journal;
 use sq_machine::{Entry, Event, Told, later};
-use sq_model_rows::Stepped;
+use sq_model::Stepped;
 use std::alloc::Global;
 
 /// The bytes that the name of a class has at most.

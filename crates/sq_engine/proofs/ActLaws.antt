@@ -10,8 +10,8 @@ use Rattle.sq_machine.specs.Farms.{Sending, Stock, Waiting, after_send, after_se
 use Rattle.sq_machine.specs.Living.{some_free}
 use Rattle.sq_machine.specs.Numbered.{below, picks}
 use Rattle.sq_machine.specs.OpenLookups.{question_of}
-use Rattle.sq_model_rows.specs.ClassRows.{ClassRow, after_sending, after_starting}
-use Rattle.sq_model_laws.proofs.RowLaws.{picks_same}
+use Rattle.sq_model.specs.ClassRows.{ClassRow, after_sending, after_starting}
+use Rattle.sq_model.proofs.RowLaws.{picks_same}
 use Rattle.sq_class.specs.Parts.{PartState}
 use Rattle.sq_epochs.specs.DueStates as dues
 use Rattle.sq_epochs.specs.DueStates.{act_at, after_due, change_at, change_class, change_part, due_of, live_places, send_by, sent_part, start_by, started_part, told_act, told_due}
@@ -21,11 +21,11 @@ use Rattle.sq_machine.specs.declared.acts.Act.{Act}
 use Rattle.sq_epochs.proofs.DueLaws.{found_self, made_same}
 use Rattle.sq_epochs.proofs.NumberLaws.{live_numbers, rising_picked}
 use Rattle.sq_epochs.proofs.ReadLaws.{config_acted, row_acted, stop_told}
-use Rattle.sq_model_state.specs.Acts.{due_in, live_places_in, places_in, send_in, start_in}
-use Rattle.sq_model_state.specs.States.{IsSame, State, live}
-use Rattle.sq_model_state.specs.Changes.{at, change_row}
-use Rattle.sq_model_state.proofs.ActPromises.{none_due, send_answered, start_answered, stop_answered}
-use Rattle.sq_model_state.proofs.PromiseLaws.{answered_same}
+use Rattle.sq_model.specs.Acts.{due_in, live_places_in, places_in, send_in, start_in}
+use Rattle.sq_model.specs.States.{IsSame, State, live}
+use Rattle.sq_model.specs.Changes.{at, change_row}
+use Rattle.sq_model.proofs.ActPromises.{none_due, send_answered, start_answered, stop_answered}
+use Rattle.sq_model.proofs.PromiseLaws.{answered_same}
 use Rattle.sq_engine.specs.Acting.{IsActPromised, after_act, due_now}
 use Rattle.sq_engine.specs.Engines.{IsEngine}
 use Rattle.sq_engine.specs.EngineViews.{EngineView, config_in, state_of, stop_at}

@@ -15,7 +15,7 @@ use Rattle.sq_machine.specs.Limits.{last_number}
 use Rattle.sq_machine.specs.Next.{gives, refuse_if, refuse_open, refuses}
 use Rattle.sq_machine.specs.Rising.{AreAbove, Rises}
 use Rattle.sq_rules.specs.Sights.{asked_request, minute_of_week, unversioned, unversioned_sight}
-use Rattle.sq_model_rows.specs.CheckRows.{Held, begun, held_on}
+use Rattle.sq_model.specs.CheckRows.{Held, begun, held_on}
 use Rattle.sq_checks.proofs.AloneLaws.{alone_more, held_on_kept, held_on_more}
 use Rattle.sq_checks.specs.Conns.{OpenConns, check_in, client_in}
 use Rattle.sq_checks.specs.Counts.{tally}
@@ -25,9 +25,9 @@ use Rattle.sq_checks.specs.Tables.{value_at}
 use Rattle.sq_epochs.proofs.EndLaws.{config_began, part_began, row_began}
 use Rattle.sq_epochs.specs.EpochStates.{EpochState, EpochsState, epoch_at}
 use Rattle.sq_epochs.specs.LiveEpochs.{after_began, checks_at}
-use Rattle.sq_model_state.specs.Answers.{ask_answer, asked_in, check_on, sight_in}
-use Rattle.sq_model_state.specs.Changes.{after_ask}
-use Rattle.sq_model_state.specs.States.{IsSame}
+use Rattle.sq_model.specs.Answers.{ask_answer, asked_in, check_on, sight_in}
+use Rattle.sq_model.specs.Changes.{after_ask}
+use Rattle.sq_model.specs.States.{IsSame}
 use Rattle.sq_engine.specs.Engines.{AreCounted, IsEngine, asked_of, held_number, waits_at}
 use Rattle.sq_engine.specs.EngineViews.{EngineView, config_at, config_in, state_of}
 use Rattle.sq_engine.proofs.CloseLaws.{none_on}

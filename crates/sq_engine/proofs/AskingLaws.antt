@@ -4,7 +4,7 @@ use Rattle.std.specs.List.{slice_get}
 use Rattle.sq_rules.specs.Classes.{Class}
 use Rattle.sq_machine.specs.Farms.{full}
 use Rattle.sq_machine.specs.OpenLookups.{pending_in, question_of}
-use Rattle.sq_model_rows.specs.declared.stepping.StepEffect.{StepEffect}
+use Rattle.sq_model.specs.declared.stepping.StepEffect.{StepEffect}
 use Rattle.sq_class.specs.Parts.{PartState}
 use Rattle.sq_checks.proofs.StepLaws.{need_noted}
 use Rattle.sq_checks.specs.OpenChecks.{IsNoted}

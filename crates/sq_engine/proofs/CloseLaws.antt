@@ -9,7 +9,7 @@ use Rattle.sq_rules.specs.declared.sights.Peer.{Peer}
 use Rattle.sq_machine.specs.Connections.{is_address}
 use Rattle.sq_machine.specs.DueActs.{ClassId}
 use Rattle.sq_machine.specs.Next.{gives, refuses}
-use Rattle.sq_model_rows.specs.CheckRows.{Held, held_on, without_conn}
+use Rattle.sq_model.specs.CheckRows.{Held, held_on, without_conn}
 use Rattle.sq_checks.proofs.AloneLaws.{conn_absent}
 use Rattle.sq_checks.specs.Conns.{OpenConns, check_in, client_in, lowered}
 use Rattle.sq_checks.specs.Counts.{tally}
@@ -17,9 +17,9 @@ use Rattle.sq_checks.specs.OpenChecks.{rows_of}
 use Rattle.sq_epochs.proofs.EndLaws.{homes_there, if_there, is_gone, none_gone}
 use Rattle.sq_epochs.specs.EpochProcs.{AreHomed}
 use Rattle.sq_epochs.specs.EpochStates.{EpochState, EpochsState, epoch_at, home_at, part_of, row_at}
-use Rattle.sq_model_state.specs.Answers.{close_answer}
-use Rattle.sq_model_state.specs.Changes.{after_close, if_live, is_of_client, is_over, with_checks}
-use Rattle.sq_model_state.specs.States.{IsSame, State, lives_with}
+use Rattle.sq_model.specs.Answers.{close_answer}
+use Rattle.sq_model.specs.Changes.{after_close, if_live, is_of_client, is_over, with_checks}
+use Rattle.sq_model.specs.States.{IsSame, State, lives_with}
 use Rattle.sq_engine.specs.Engines.{IsEngine, held_number}
 use Rattle.sq_engine.specs.EngineViews.{EngineView, config_at, config_in, state_of}
 

@@ -4,13 +4,13 @@ use Rattle.std.proofs.lemmas.Option.{none-some, same_Some}
 use Rattle.std.specs.List.{list_any}
 use Rattle.std.specs.Option.{option_map, option_map_or}
 use Rattle.sq_machine.specs.Rising.{Rises}
-use Rattle.sq_model_rows.specs.CheckRows.{Held, held_at, without_check}
+use Rattle.sq_model.specs.CheckRows.{Held, held_at, without_check}
 use Rattle.sq_checks.proofs.EpochLaws.{of_epoch_more, of_epoch_without}
 use Rattle.sq_checks.specs.OpenChecks.{of_epoch}
 use Rattle.sq_epochs.proofs.EndLaws.{epoch_counted, epoch_dropped}
 use Rattle.sq_epochs.specs.EpochStates.{EpochState, EpochsState, change_epoch, epoch_at}
 use Rattle.sq_epochs.specs.LiveEpochs.{after_began, after_ended, check_less, check_more, checks_at, drop_epoch, ends_with_check}
-use Rattle.sq_model_state.specs.States.{lives_with}
+use Rattle.sq_model.specs.States.{lives_with}
 use Rattle.sq_engine.specs.Engines.{AreCounted, held_number}
 use Rattle.sq_engine.proofs.TableLaws.{number_is, number_self, number_sym}
 

@@ -3,8 +3,8 @@ use Rattle.std.proofs.Common.{◌≡◌, ◌∙◌, ◌==◌, ◌&&◌, ◌||◌
 use Rattle.std.proofs.lemmas.Option.{none-some, same_Some}
 use Rattle.std.specs.Option.{option_map}
 use Rattle.sq_machine.specs.OpenLookups.{LookupRow, all_below, is_open_lookup, key_of, question_of}
-use Rattle.sq_model_rows.specs.CheckRows.{Ends, after_ends, served}
-use Rattle.sq_model_rows.specs.ClassRows.{ClassRow}
+use Rattle.sq_model.specs.CheckRows.{Ends, after_ends, served}
+use Rattle.sq_model.specs.ClassRows.{ClassRow}
 use Rattle.sq_class.specs.Parts.{PartState}
 use Rattle.sq_checks.specs.Conns.{check_in}
 use Rattle.sq_checks.specs.OpenChecks.{CheckParts, rows_of}

@@ -6,16 +6,16 @@ use Rattle.sq_base.specs.declared.helpers.Cause.{Cause}
 use Rattle.sq_base.specs.declared.helpers.What.TheVariants as what
 use Rattle.sq_machine.specs.DueActs.{ClassId}
 use Rattle.sq_machine.specs.Rising.{Rises}
-use Rattle.sq_model_rows.specs.CheckRows.{after_ends}
-use Rattle.sq_model_rows.specs.ClassRows.{after_death}
+use Rattle.sq_model.specs.CheckRows.{after_ends}
+use Rattle.sq_model.specs.ClassRows.{after_death}
 use Rattle.sq_class.specs.Parts.{PartState}
 use Rattle.sq_checks.specs.OpenChecks.{CheckParts, rows_of}
 use Rattle.sq_epochs.specs.EpochProcs.{HasEnded, IsEnded}
 use Rattle.sq_epochs.specs.EpochStates.{EpochsState, IsChanged, home_at, part_at}
 use Rattle.sq_epochs.specs.HomeStates.{home_in, is_among, with_number}
 use Rattle.sq_epochs.proofs.HomeLaws.{among_with, home_without}
-use Rattle.sq_model_state.specs.Changes.{after_end_at, is_open_at, row_ends}
-use Rattle.sq_model_state.specs.States.{IsSame}
+use Rattle.sq_model.specs.Changes.{after_end_at, is_open_at, row_ends}
+use Rattle.sq_model.specs.States.{IsSame}
 use Rattle.sq_engine.specs.Engines.{IsEngine, held_number}
 use Rattle.sq_engine.specs.EngineViews.{EngineView, state_of, stop_at}
 use Rattle.sq_engine.specs.Handing.{AreListed, HasHandedOut, all_lost}

@@ -8,15 +8,15 @@ use Rattle.sq_rules.specs.Classes.{Class}
 use Rattle.sq_rules.specs.Configurations.{Configuration}
 use Rattle.sq_machine.specs.Limits.{last_number}
 use Rattle.sq_machine.specs.OpenLookups.{all_below, is_open_lookup, question_of}
-use Rattle.sq_model_rows.specs.CheckRows.{held_on}
-use Rattle.sq_model_rows.specs.ClassRows.{new_row}
+use Rattle.sq_model.specs.CheckRows.{held_on}
+use Rattle.sq_model.specs.ClassRows.{new_row}
 use Rattle.sq_class.specs.Parts.{PartState}
 use Rattle.sq_checks.specs.Counts.{tally}
 use Rattle.sq_checks.specs.OpenChecks.{AreAlone, all_before, of_epoch, rows_of}
 use Rattle.sq_checks.specs.Tables.{value_at}
 use Rattle.sq_epochs.specs.EpochStates.{EpochState, EpochsState, epoch_at, home_at, new_epoch, new_part, part_at, part_of, row_at}
-use Rattle.sq_model_state.specs.Changes.{first_state}
-use Rattle.sq_model_state.specs.States.{IsSame, lives_with}
+use Rattle.sq_model.specs.Changes.{first_state}
+use Rattle.sq_model.specs.States.{IsSame, lives_with}
 use Rattle.sq_engine.specs.Engines.{AreOnce, IsEngine, held_number, waits_at}
 use Rattle.sq_engine.specs.EngineViews.{EngineView, config_at, config_in, state_of, stop_at}
 

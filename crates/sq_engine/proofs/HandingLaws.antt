@@ -10,7 +10,7 @@ use Rattle.sq_base.specs.declared.helpers.What.TheVariants as what
 use Rattle.sq_machine.specs.Events.{is_number}
 use Rattle.sq_machine.specs.Losses.{Loss}
 use Rattle.sq_machine.specs.OpenLookups.{LookupRow, is_open_lookup, key_of, question_of}
-use Rattle.sq_model_rows.specs.ClassRows.{ClassRow}
+use Rattle.sq_model.specs.ClassRows.{ClassRow}
 use Rattle.sq_lookup.specs.Waits.{has_check}
 use Rattle.sq_class.specs.Losing.{IsHandedOut, handed_out, lost_cause}
 use Rattle.sq_class.specs.Parts.{PartState}

@@ -4,7 +4,7 @@ use Rattle.std.specs.List.{list_any}
 use Rattle.std.specs.Option.{option_map, option_and_then}
 use Rattle.sq_base.specs.declared.helpers.Answer.{Answer}
 use Rattle.sq_machine.specs.StepRule.{StepSays}
-use Rattle.sq_model_rows.specs.CheckRows.{Ends, Held, after_step, held_on, served, served_by, stepped}
+use Rattle.sq_model.specs.CheckRows.{Ends, Held, after_step, held_on, served, served_by, stepped}
 use Rattle.sq_checks.specs.OpenChecks.{AreAlone, all_before, of_epoch}
 use Rattle.sq_epochs.specs.EpochStates.{EpochState}
 use Rattle.sq_engine.specs.Engines.{AreAsked, AreCounted, held_number}

@@ -17,9 +17,9 @@ use Rattle.sq_machine.specs.StepRule.{StepSays, says_asked, says_fault, says_fre
 use Rattle.sq_machine.specs.declared.entries.Told.{Told}
 use Rattle.sq_machine.specs.declared.entries.Told.TheVariants as told
 use Rattle.sq_machine.specs.declared.kept.CachedReply.{CachedReply}
-use Rattle.sq_model_rows.specs.ClassRows.{ClassRow, with_took}
-use Rattle.sq_model_rows.specs.StepRows.{after_says, question_told, says_of_row, stepped_of, with_put}
-use Rattle.sq_model_rows.specs.declared.stepping.StepEffect.{StepEffect}
+use Rattle.sq_model.specs.ClassRows.{ClassRow, with_took}
+use Rattle.sq_model.specs.StepRows.{after_says, question_told, says_of_row, stepped_of, with_put}
+use Rattle.sq_model.specs.declared.stepping.StepEffect.{StepEffect}
 use Rattle.sq_class.specs.Parts.{PartState}
 use Rattle.sq_checks.specs.OpenChecks.{CheckParts, change_at, noted}
 use Rattle.sq_checks.specs.Stages.{need_in, noted_stage}

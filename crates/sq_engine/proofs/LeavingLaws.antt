@@ -2,7 +2,7 @@
 use Rattle.std.proofs.Common.{◌≡◌, ◌∙◌, ◌==◌, ◌&&◌, ◌⊎◌, inl, inr, ℕ, List, Bool, true, false, if◌then◌else◌, Option, None, Some, is_some, refl, ap, sym, subst, arith}
 use Rattle.std.specs.Option.{option_map}
 use Rattle.sq_machine.specs.OpenLookups.{question_of}
-use Rattle.sq_model_rows.specs.CheckRows.{Held}
+use Rattle.sq_model.specs.CheckRows.{Held}
 use Rattle.sq_class.specs.Parts.{PartState}
 use Rattle.sq_checks.specs.OpenChecks.{CheckParts}
 use Rattle.sq_checks.specs.Stages.{need_in}

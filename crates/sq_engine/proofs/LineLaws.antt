@@ -18,8 +18,8 @@ use Rattle.sq_machine.specs.declared.refusals.Refusal.TheVariants as refusal
 use Rattle.sq_class.specs.Parts.{PartState}
 use Rattle.sq_epochs.specs.EpochProcs.{AreHomed, is_place, lives_in}
 use Rattle.sq_epochs.specs.EpochStates.{home_at, part_at}
-use Rattle.sq_model_state.specs.Answers.{channels_in, line_answer, line_of}
-use Rattle.sq_model_state.specs.States.{State}
+use Rattle.sq_model.specs.Answers.{channels_in, line_answer, line_of}
+use Rattle.sq_model.specs.States.{State}
 use Rattle.sq_engine.specs.EngineViews.{EngineView, state_of}
 use Rattle.sq_engine.specs.Lines.{IsRead, got_told}
 use Rattle.sq_engine.proofs.TableLaws.{number_self}

@@ -11,8 +11,8 @@ use Rattle.sq_machine.specs.Marks.{Put}
 use Rattle.sq_machine.specs.OpenLookups.{LookupRow, all_below, is_open_lookup, pending_in}
 use Rattle.sq_machine.specs.StepRule.{StepSays, says_asked, says_fault, says_fresh, says_need}
 use Rattle.sq_machine.specs.declared.kept.CachedReply.{CachedReply}
-use Rattle.sq_model_rows.specs.ClassRows.{ClassRow}
-use Rattle.sq_model_rows.specs.StepRows.{after_says, with_put}
+use Rattle.sq_model.specs.ClassRows.{ClassRow}
+use Rattle.sq_model.specs.StepRows.{after_says, with_put}
 use Rattle.sq_engine.proofs.TableLaws.{number_self}
 
 both : (a b : Bool) → (a && b) ≡ true → (a ≡ true) × (b ≡ true)

@@ -11,8 +11,8 @@ use Rattle.sq_machine.specs.Living.{slots_in}
 use Rattle.sq_machine.specs.Losses.{Loss}
 use Rattle.sq_machine.specs.OpenLookups.{LookupRow, is_open_lookup, key_of, question_of, waits_in}
 use Rattle.sq_machine.specs.Rising.{Rises}
-use Rattle.sq_model_rows.specs.CheckRows.{after_ends}
-use Rattle.sq_model_rows.specs.ClassRows.{ClassRow, after_death, after_failed, is_waiting}
+use Rattle.sq_model.specs.CheckRows.{after_ends}
+use Rattle.sq_model.specs.ClassRows.{ClassRow, after_death, after_failed, is_waiting}
 use Rattle.sq_class.specs.Losing.{handed_out, lost_cause}
 use Rattle.sq_class.specs.Parts.{PartState}
 use Rattle.sq_checks.specs.OpenChecks.{CheckParts, rows_of}
@@ -21,8 +21,8 @@ use Rattle.sq_checks.specs.declared.stages.Need.{Need}
 use Rattle.sq_epochs.specs.EpochChanges.{HasFailed}
 use Rattle.sq_epochs.specs.EpochProcs.{HasEnded}
 use Rattle.sq_epochs.specs.EpochStates.{EpochsState, IsChanged, home_at, part_at, row_at}
-use Rattle.sq_model_state.specs.Changes.{after_failed_at, end_answer, is_stranded, row_ends}
-use Rattle.sq_model_state.specs.States.{IsSame}
+use Rattle.sq_model.specs.Changes.{after_failed_at, end_answer, is_stranded, row_ends}
+use Rattle.sq_model.specs.States.{IsSame}
 use Rattle.sq_engine.specs.Engines.{IsEngine, held_number}
 use Rattle.sq_engine.specs.EngineViews.{EngineView, state_of, stop_at}
 use Rattle.sq_engine.specs.Handing.{AreListed, HasHandedOut, all_lost, still_waits}

@@ -10,7 +10,7 @@ use Rattle.sq_machine.specs.Events.{is_number}
 use Rattle.sq_machine.specs.OpenLookups.{LookupRow, is_open_lookup, key_of}
 use Rattle.sq_machine.specs.Rising.{AreAbove, Rises}
 use Rattle.sq_class.specs.Parts.{PartState}
-use Rattle.sq_model_rows.specs.CheckRows.{Ends, Held, after_ends, no_end, one_end, served, served_by}
+use Rattle.sq_model.specs.CheckRows.{Ends, Held, after_ends, no_end, one_end, served, served_by}
 use Rattle.sq_class.specs.Losing.{lost_cause}
 use Rattle.sq_checks.specs.OpenChecks.{AllFit, CheckParts, IsFit, all_ended, both_ends, ended_by, rows_of}
 use Rattle.sq_checks.specs.Stages.{ended_stage, need_in, question_in}
@@ -19,7 +19,7 @@ use Rattle.sq_checks.specs.declared.stages.Need.{Need}
 use Rattle.sq_checks.specs.declared.stages.CheckStage.{CheckStage}
 use Rattle.sq_checks.specs.declared.stages.CheckStage.TheVariants as stage
 use Rattle.sq_checks.proofs.RowLaws.{ends_after, rows_ended}
-use Rattle.sq_model_state.specs.Changes.{end_answer}
+use Rattle.sq_model.specs.Changes.{end_answer}
 use Rattle.sq_epochs.specs.EpochStates.{part_at}
 use Rattle.sq_engine.specs.Engines.{IsEngine, asked_of, held_number, waits_at}
 use Rattle.sq_engine.specs.EngineViews.{EngineView}

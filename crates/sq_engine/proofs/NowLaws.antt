@@ -16,8 +16,8 @@ use Rattle.sq_machine.specs.Machine.{step_next}
 use Rattle.sq_machine.specs.StepRule.{class_of_acl, says_done}
 use Rattle.sq_rules.specs.Sights.{unversioned_sight}
 use Rattle.sq_rules.specs.Verdicts.{verdict_over}
-use Rattle.sq_model_rows.specs.CheckRows.{held_at}
-use Rattle.sq_model_laws.proofs.ConfigurationLaws.{NeedsClass, needs_class}
+use Rattle.sq_model.specs.CheckRows.{held_at}
+use Rattle.sq_model.proofs.ConfigurationLaws.{NeedsClass, needs_class}
 use Rattle.sq_checks.specs.OpenChecks.{CheckParts, answers_in, change_at, comes_to, looked, row, rows_of, says_waits, settled, settled_by}
 use Rattle.sq_checks.specs.Stages.{came_in, is_settled, need_in, question_in}
 use Rattle.sq_checks.specs.Tables.{value_at}
@@ -25,8 +25,8 @@ use Rattle.sq_checks.specs.declared.stages.Need.{Need}
 use Rattle.sq_checks.specs.declared.stages.CheckStage.{CheckStage}
 use Rattle.sq_checks.specs.declared.stages.CheckStage.TheVariants as stage
 use Rattle.sq_epochs.specs.EpochStates.{EpochState, class_of, epoch_at, part_at}
-use Rattle.sq_model_state.specs.Changes.{after_step_of}
-use Rattle.sq_model_state.specs.Says.{says_in, says_place_in, says_value_in, value_in}
+use Rattle.sq_model.specs.Changes.{after_step_of}
+use Rattle.sq_model.specs.Says.{says_in, says_place_in, says_value_in, value_in}
 use Rattle.sq_engine.specs.Engines.{IsEngine}
 use Rattle.sq_engine.specs.EngineViews.{EngineView, config_in, state_of}
 use Rattle.sq_engine.specs.Stepping.{NeedsAcl, after_step_held, after_step_now, epoch_of, says_now, says_of_wait, step_now, step_of}

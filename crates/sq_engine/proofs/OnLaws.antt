@@ -3,7 +3,7 @@ use Rattle.std.proofs.Common.{◌≡◌, ◌∙◌, ◌==◌, ◌<◌, ℕ, List
 use Rattle.std.proofs.lemmas.Option.{none-some, same_Some}
 use Rattle.std.specs.Option.{option_map}
 use Rattle.sq_machine.specs.Rising.{AreAbove, Rises}
-use Rattle.sq_model_rows.specs.CheckRows.{Held, held_on}
+use Rattle.sq_model.specs.CheckRows.{Held, held_on}
 use Rattle.sq_checks.specs.Conns.{check_in}
 use Rattle.sq_checks.specs.OpenChecks.{CheckParts, row, rows_of}
 use Rattle.sq_checks.specs.Tables.{value_at}

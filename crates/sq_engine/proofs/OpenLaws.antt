@@ -9,9 +9,9 @@ use Rattle.sq_machine.specs.Limits.{conn_limit}
 use Rattle.sq_machine.specs.Next.{gives, refuses}
 use Rattle.sq_checks.specs.Conns.{OpenConns, check_in, client_in}
 use Rattle.sq_checks.specs.Counts.{tally}
-use Rattle.sq_model_state.specs.Answers.{open_answer}
-use Rattle.sq_model_state.specs.Changes.{after_open}
-use Rattle.sq_model_state.specs.States.{IsSame, State}
+use Rattle.sq_model.specs.Answers.{open_answer}
+use Rattle.sq_model.specs.Changes.{after_open}
+use Rattle.sq_model.specs.States.{IsSame, State}
 use Rattle.sq_engine.specs.Engines.{IsEngine}
 use Rattle.sq_engine.specs.EngineViews.{EngineView, state_of}
 

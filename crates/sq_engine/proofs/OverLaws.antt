@@ -9,8 +9,8 @@ use Rattle.sq_rules.specs.Configurations.{Configuration}
 use Rattle.sq_machine.specs.DueActs.{ClassId}
 use Rattle.sq_machine.specs.OpenLookups.{all_below, is_open_lookup, key_of, question_of}
 use Rattle.sq_machine.specs.Rising.{Rises}
-use Rattle.sq_model_rows.specs.CheckRows.{Held, held_at, held_on, without_check, without_conn}
-use Rattle.sq_model_rows.specs.ClassRows.{ClassRow}
+use Rattle.sq_model.specs.CheckRows.{Held, held_at, held_on, without_check, without_conn}
+use Rattle.sq_model.specs.ClassRows.{ClassRow}
 use Rattle.sq_class.specs.Parts.{PartState}
 use Rattle.sq_checks.proofs.AloneLaws.{alone_without, conn_alone, held_on_left}
 use Rattle.sq_checks.specs.Conns.{OpenConns, check_in, client_in}
@@ -23,8 +23,8 @@ use Rattle.sq_epochs.specs.EpochProcs.{AreHomed}
 use Rattle.sq_epochs.specs.EpochStates.{EpochState, EpochsState, change_epoch, epoch_at, home_at, part_at, part_of}
 use Rattle.sq_epochs.specs.HomeStates.{home_number}
 use Rattle.sq_epochs.specs.LiveEpochs.{after_ended, check_less, drop_epoch, ends_with_check}
-use Rattle.sq_model_state.specs.Changes.{if_live, is_over, with_checks}
-use Rattle.sq_model_state.specs.States.{IsSame, lives_with}
+use Rattle.sq_model.specs.Changes.{if_live, is_over, with_checks}
+use Rattle.sq_model.specs.States.{IsSame, lives_with}
 use Rattle.sq_engine.specs.Engines.{AreCounted, AreOnce, IsEngine, held_number, waits_at}
 use Rattle.sq_engine.specs.EngineViews.{EngineView, config_at, config_in, state_of}
 use Rattle.sq_engine.proofs.CountLaws.{counted_over, if_false, if_true}

@@ -4,7 +4,7 @@ use Rattle.std.proofs.lemmas.Option.{same_Some}
 use Rattle.std.specs.List.{slice_get}
 use Rattle.std.specs.Prelude.{slice_set}
 use Rattle.sq_class.specs.Parts.{PartState}
-use Rattle.sq_model_rows.specs.CheckRows.{Held}
+use Rattle.sq_model.specs.CheckRows.{Held}
 use Rattle.sq_checks.specs.OpenChecks.{CheckParts}
 use Rattle.sq_epochs.specs.EpochStates.{EpochState, EpochsState, IsChanged, change_epoch, epoch_at, epoch_in, home_at, part_at, part_of, with_part}
 use Rattle.sq_engine.specs.Engines.{AreConfigured, AreCounted}

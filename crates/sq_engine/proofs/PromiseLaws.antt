@@ -24,19 +24,19 @@ use Rattle.sq_machine.specs.StepRule.{StepSays}
 use Rattle.sq_machine.specs.Transcripts.{line_is}
 use Rattle.sq_channel.specs.declared.replies.Got.{Got}
 use Rattle.sq_channel.specs.declared.replies.Got.TheVariants as got
-use Rattle.sq_model_rows.specs.CheckRows.{Held, held_at}
-use Rattle.sq_model_state.specs.Answers.{ask_answer, asked_in, channels_in, close_answer, died_answer, failed_answer, line_answer, line_of, name_in, open_answer, started_answer, step_of_held, take_answer}
-use Rattle.sq_model_state.specs.Changes.{after_ask, after_close, after_end_at, after_failed_at, after_open, after_started_at, after_step_of, after_take, first_state}
-use Rattle.sq_model_state.specs.Promises.{IsAnswered, StandsFor}
-use Rattle.sq_model_state.specs.Says.{says_in}
-use Rattle.sq_model_state.specs.States.{IsSame, State}
-use Rattle.sq_model_state.proofs.ActPromises.{failed_answered, started_answered}
-use Rattle.sq_model_state.proofs.ConnStands.{ask_next, close_next, open_next, take_next}
-use Rattle.sq_model_state.proofs.LinePromises.{bad_answered, died_answered, died_told, line_told_to, reply_answered, stray_answered}
-use Rattle.sq_model_state.proofs.PromiseLaws.{answered_same, ask_answered, close_answered, first_for, law_of, next_now, open_answered, take_answered}
-use Rattle.sq_model_state.proofs.Lawful.{stands_same}
-use Rattle.sq_model_state.proofs.StartStands.{failed_next, started_next}
-use Rattle.sq_model_state.proofs.StepPromises.{step_answered, step_told, step_waiting}
+use Rattle.sq_model.specs.CheckRows.{Held, held_at}
+use Rattle.sq_model.specs.Answers.{ask_answer, asked_in, channels_in, close_answer, died_answer, failed_answer, line_answer, line_of, name_in, open_answer, started_answer, step_of_held, take_answer}
+use Rattle.sq_model.specs.Changes.{after_ask, after_close, after_end_at, after_failed_at, after_open, after_started_at, after_step_of, after_take, first_state}
+use Rattle.sq_model.specs.Promises.{IsAnswered, StandsFor}
+use Rattle.sq_model.specs.Says.{says_in}
+use Rattle.sq_model.specs.States.{IsSame, State}
+use Rattle.sq_model.proofs.ActPromises.{failed_answered, started_answered}
+use Rattle.sq_model.proofs.ConnStands.{ask_next, close_next, open_next, take_next}
+use Rattle.sq_model.proofs.LinePromises.{bad_answered, died_answered, died_told, line_told_to, reply_answered, stray_answered}
+use Rattle.sq_model.proofs.PromiseLaws.{answered_same, ask_answered, close_answered, first_for, law_of, next_now, open_answered, take_answered}
+use Rattle.sq_model.proofs.Lawful.{stands_same}
+use Rattle.sq_model.proofs.StartStands.{failed_next, started_next}
+use Rattle.sq_model.proofs.StepPromises.{step_answered, step_told, step_waiting}
 use Rattle.sq_engine.specs.Lines.{IsLineDone, IsRead, got_told}
 use Rattle.sq_engine.specs.Promised.{IsBegun, IsPromised, IsPromisedAt}
 use Rattle.sq_engine.specs.Stepping.{after_step_held, after_step_now, says_now, says_of_wait, step_now, step_of}

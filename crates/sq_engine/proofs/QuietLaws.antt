@@ -2,7 +2,7 @@
 use Rattle.std.proofs.Common.{◌≡◌, ◌∙◌, ◌==◌, ◌&&◌, inl, ℕ, suc, Bool, true, false, if◌then◌else◌, Some, refl, ap, sym}
 use Rattle.std.specs.Option.{option_map}
 use Rattle.sq_machine.specs.OpenLookups.{all_below, is_open_lookup, question_of}
-use Rattle.sq_model_rows.specs.ClassRows.{ClassRow}
+use Rattle.sq_model.specs.ClassRows.{ClassRow}
 use Rattle.sq_class.specs.Parts.{PartState}
 use Rattle.sq_checks.specs.OpenChecks.{rows_of}
 use Rattle.sq_checks.specs.Tables.{value_at}

@@ -1,7 +1,7 @@
 -- What is read of live epochs is what the state has.
 use Rattle.std.proofs.Common.{◌≡◌, ℕ, Option, None, Some, refl}
 use Rattle.sq_epochs.specs.EpochStates.{EpochState, class_at, epoch_at}
-use Rattle.sq_model_state.specs.Says.{class_in}
+use Rattle.sq_model.specs.Says.{class_in}
 use Rattle.sq_engine.specs.EngineViews.{EngineView, state_of}
 
 -- the class at a place of a live epoch

@@ -17,8 +17,8 @@ use Rattle.sq_machine.specs.Next.{gives, refuses}
 use Rattle.sq_machine.specs.Numbered.{picks}
 use Rattle.sq_machine.specs.OpenLookups.{all_below, is_open_lookup, key_of, question_of}
 use Rattle.sq_machine.specs.Rising.{Rises}
-use Rattle.sq_model_rows.specs.CheckRows.{Held}
-use Rattle.sq_model_rows.specs.ClassRows.{ClassRow, new_row}
+use Rattle.sq_model.specs.CheckRows.{Held}
+use Rattle.sq_model.specs.ClassRows.{ClassRow, new_row}
 use Rattle.sq_class.specs.Parts.{PartState}
 use Rattle.sq_checks.specs.OpenChecks.{CheckParts, of_epoch, rows_of}
 use Rattle.sq_checks.specs.Tables.{value_at}
@@ -30,13 +30,13 @@ use Rattle.sq_epochs.specs.EpochStates.{EpochState, EpochsState, class_at, class
 use Rattle.sq_epochs.specs.HomeStates.{home_number}
 use Rattle.sq_epochs.specs.LiveEpochs.{AreEpochs, busy_count, checks_at, drop_epoch}
 use Rattle.sq_epochs.specs.Reconfigured.{after_reconfigured, alike_in, begun_epoch, begun_part, emptied, kept_before, left_epoch, left_parts, with_epoch}
-use Rattle.sq_model_state.specs.Answers.{busy_in, reconfigure_answer}
-use Rattle.sq_model_state.specs.Changes as changes
-use Rattle.sq_model_state.specs.Says.{class_in}
-use Rattle.sq_model_state.specs.States.{IsSame, State, lives_with}
-use Rattle.sq_model_state.proofs.ActPromises.{reconfigure_answered}
-use Rattle.sq_model_state.proofs.PromiseLaws.{answered_same, next_now}
-use Rattle.sq_model_state.proofs.ReconfigureStands.{reconfigure_next}
+use Rattle.sq_model.specs.Answers.{busy_in, reconfigure_answer}
+use Rattle.sq_model.specs.Changes as changes
+use Rattle.sq_model.specs.Says.{class_in}
+use Rattle.sq_model.specs.States.{IsSame, State, lives_with}
+use Rattle.sq_model.proofs.ActPromises.{reconfigure_answered}
+use Rattle.sq_model.proofs.PromiseLaws.{answered_same, next_now}
+use Rattle.sq_model.proofs.ReconfigureStands.{reconfigure_next}
 use Rattle.sq_engine.specs.Engines.{AreCounted, AreOnce, IsEngine, waits_at}
 use Rattle.sq_engine.specs.EngineViews.{EngineView, config_at, config_in, state_of, stop_at}
 use Rattle.sq_engine.specs.Promised.{IsPromisedNext}

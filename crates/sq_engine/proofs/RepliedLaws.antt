@@ -12,8 +12,8 @@ use Rattle.sq_class.specs.Parts.{PartState}
 use Rattle.sq_checks.specs.OpenChecks.{CheckParts, all_ended, rows_of}
 use Rattle.sq_epochs.specs.EpochChanges.{HasReplied}
 use Rattle.sq_epochs.specs.EpochStates.{EpochsState, IsChanged, class_at, home_at, part_at}
-use Rattle.sq_model_state.specs.Changes.{after_reply_at}
-use Rattle.sq_model_state.specs.States.{IsSame}
+use Rattle.sq_model.specs.Changes.{after_reply_at}
+use Rattle.sq_model.specs.States.{IsSame}
 use Rattle.sq_engine.specs.Engines.{IsEngine, held_number}
 use Rattle.sq_engine.specs.EngineViews.{EngineView, state_of}
 use Rattle.sq_engine.specs.Lines.{IsReplied, all_given, share_of}

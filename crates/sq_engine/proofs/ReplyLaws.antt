@@ -7,8 +7,8 @@ use Rattle.sq_rules.specs.Classes.{Class}
 use Rattle.sq_machine.specs.Events.{is_number}
 use Rattle.sq_machine.specs.OpenLookups.{LookupRow, is_open_lookup, key_of, question_of}
 use Rattle.sq_machine.specs.Rising.{AreAbove, Rises}
-use Rattle.sq_model_rows.specs.CheckRows.{after_ends, one_end}
-use Rattle.sq_model_rows.specs.ClassRows.{ClassRow, after_reply}
+use Rattle.sq_model.specs.CheckRows.{after_ends, one_end}
+use Rattle.sq_model.specs.ClassRows.{ClassRow, after_reply}
 use Rattle.sq_class.specs.Parts.{PartState}
 use Rattle.sq_checks.proofs.RowLaws.{rows_ended}
 use Rattle.sq_checks.specs.OpenChecks.{AllFit, CheckParts, IsFit, all_ended, ended_by, rows_of}
@@ -18,8 +18,8 @@ use Rattle.sq_checks.specs.declared.stages.CheckStage.{CheckStage}
 use Rattle.sq_checks.specs.declared.stages.CheckStage.TheVariants as stage
 use Rattle.sq_epochs.specs.EpochChanges.{HasReplied}
 use Rattle.sq_epochs.specs.EpochStates.{EpochsState, IsChanged, home_at, part_at}
-use Rattle.sq_model_state.specs.Changes.{after_reply_at}
-use Rattle.sq_model_state.specs.States.{IsSame}
+use Rattle.sq_model.specs.Changes.{after_reply_at}
+use Rattle.sq_model.specs.States.{IsSame}
 use Rattle.sq_engine.specs.Engines.{IsEngine, held_number}
 use Rattle.sq_engine.specs.EngineViews.{EngineView, state_of, stop_at}
 use Rattle.sq_engine.proofs.EndedLaws.{HasEnds, IsEnding, ended_configs, ended_engine, ended_rows, left_need, left_waits}

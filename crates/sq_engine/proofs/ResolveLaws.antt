@@ -17,20 +17,20 @@ use Rattle.sq_machine.specs.declared.entries.Told.{Told}
 use Rattle.sq_machine.specs.declared.entries.Told.TheVariants as told
 use Rattle.sq_machine.specs.declared.kept.CachedReply.{CachedReply}
 use Rattle.sq_machine.specs.declared.refusals.Refusal.TheVariants as refusal
-use Rattle.sq_model_rows.specs.CheckRows.{after_step}
-use Rattle.sq_model_rows.specs.StepRows.{says_of_row, stepped_of, told_of}
-use Rattle.sq_model_rows.specs.declared.stepping.StepEffect.{StepEffect}
-use Rattle.sq_model_laws.specs.ClassChanges.{after_said}
+use Rattle.sq_model.specs.CheckRows.{after_step}
+use Rattle.sq_model.specs.StepRows.{says_of_row, stepped_of, told_of}
+use Rattle.sq_model.specs.declared.stepping.StepEffect.{StepEffect}
+use Rattle.sq_model.specs.ClassChanges.{after_said}
 use Rattle.sq_class.specs.Parts.{PartState}
 use Rattle.sq_class.specs.Steps.{IsSpent}
 use Rattle.sq_checks.proofs.StepLaws as check_steps
 use Rattle.sq_checks.specs.OpenChecks.{CheckParts, rows_of, says_of}
 use Rattle.sq_epochs.specs.EpochChanges.{IsResolved}
 use Rattle.sq_epochs.specs.EpochStates.{EpochState, EpochsState, IsChanged, class_at, class_of, epoch_at, part_at, row_at}
-use Rattle.sq_model_state.specs.Answers.{name_in}
-use Rattle.sq_model_state.specs.Changes.{after_step_of}
-use Rattle.sq_model_state.specs.Says.{class_in, says_class_in, says_place_in}
-use Rattle.sq_model_state.specs.States.{IsSame, State}
+use Rattle.sq_model.specs.Answers.{name_in}
+use Rattle.sq_model.specs.Changes.{after_step_of}
+use Rattle.sq_model.specs.Says.{class_in, says_class_in, says_place_in}
+use Rattle.sq_model.specs.States.{IsSame, State}
 use Rattle.sq_engine.specs.EngineViews.{EngineView, config_in, state_of}
 use Rattle.sq_engine.specs.Stepping.{stepped_told}
 use Rattle.sq_engine.proofs.PlaceLaws.{configs_kept, part_changed}

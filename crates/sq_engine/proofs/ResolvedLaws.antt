@@ -9,12 +9,12 @@ use Rattle.sq_machine.specs.Farms.{full}
 use Rattle.sq_machine.specs.Limits.{last_number}
 use Rattle.sq_machine.specs.OpenLookups.{all_below, is_open_lookup, pending_in, question_of}
 use Rattle.sq_machine.specs.StepRule.{StepSays}
-use Rattle.sq_model_rows.specs.CheckRows.{after_step}
-use Rattle.sq_model_rows.specs.ClassRows.{with_took}
-use Rattle.sq_model_rows.specs.StepRows.{after_says, question_told, says_of_row}
-use Rattle.sq_model_rows.specs.declared.stepping.StepEffect.{StepEffect}
-use Rattle.sq_model_rows.specs.declared.stepping.Stepped.{Stepped}
-use Rattle.sq_model_rows.specs.declared.stepping.Stepped.TheVariants as stepped
+use Rattle.sq_model.specs.CheckRows.{after_step}
+use Rattle.sq_model.specs.ClassRows.{with_took}
+use Rattle.sq_model.specs.StepRows.{after_says, question_told, says_of_row}
+use Rattle.sq_model.specs.declared.stepping.StepEffect.{StepEffect}
+use Rattle.sq_model.specs.declared.stepping.Stepped.{Stepped}
+use Rattle.sq_model.specs.declared.stepping.Stepped.TheVariants as stepped
 use Rattle.sq_class.specs.Parts.{IsAsBefore, PartState}
 use Rattle.sq_checks.proofs.StepLaws.{need_noted}
 use Rattle.sq_checks.specs.Conns.{check_in}
@@ -24,7 +24,7 @@ use Rattle.sq_checks.specs.Tables.{value_at}
 use Rattle.sq_checks.specs.declared.stages.Need.{Need}
 use Rattle.sq_epochs.specs.EpochChanges.{IsResolved}
 use Rattle.sq_epochs.specs.EpochStates.{EpochsState, IsChanged, epoch_at, part_at, row_at}
-use Rattle.sq_model_state.specs.States.{IsSame}
+use Rattle.sq_model.specs.States.{IsSame}
 use Rattle.sq_engine.specs.Engines.{AreConfigured, AreFed, AreKeyed, AreWaiting, IsEngine, asked_of, waits_at}
 use Rattle.sq_engine.specs.EngineViews.{EngineView, config_at, state_of}
 use Rattle.sq_engine.proofs.ChangedLaws.{configured_changed}

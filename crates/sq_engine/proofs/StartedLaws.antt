@@ -8,15 +8,15 @@ use Rattle.sq_machine.specs.DueActs.{ClassId}
 use Rattle.sq_machine.specs.Limits.{last_number}
 use Rattle.sq_machine.specs.Next.{gives, refuses}
 use Rattle.sq_machine.specs.OpenLookups.{question_of}
-use Rattle.sq_model_rows.specs.ClassRows.{after_started}
+use Rattle.sq_model.specs.ClassRows.{after_started}
 use Rattle.sq_class.specs.Parts.{PartState}
 use Rattle.sq_epochs.specs.EpochProcs.{HasStarted, IsStarted, has_start}
 use Rattle.sq_epochs.specs.EpochStates.{EpochsState, IsChanged, part_at}
 use Rattle.sq_epochs.specs.HomeStates.{AreHomes, Home, home_in}
 use Rattle.sq_epochs.proofs.HomeLaws.{home_below, home_push}
-use Rattle.sq_model_state.specs.Answers.{died_answer, failed_answer, has_start_in, started_answer}
-use Rattle.sq_model_state.specs.Changes.{after_started_at}
-use Rattle.sq_model_state.specs.States.{IsSame, State}
+use Rattle.sq_model.specs.Answers.{died_answer, failed_answer, has_start_in, started_answer}
+use Rattle.sq_model.specs.Changes.{after_started_at}
+use Rattle.sq_model.specs.States.{IsSame, State}
 use Rattle.sq_engine.specs.Engines.{IsEngine}
 use Rattle.sq_engine.specs.EngineViews.{EngineView, state_of, stop_at}
 use Rattle.sq_engine.proofs.HandingLaws.{changed_beside}

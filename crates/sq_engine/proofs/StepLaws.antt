@@ -14,13 +14,13 @@ use Rattle.sq_machine.specs.KeptReadings.{after_took}
 use Rattle.sq_machine.specs.Limits.{key_limit}
 use Rattle.sq_machine.specs.Marks.{Put}
 use Rattle.sq_machine.specs.StepRule.{StepSays, refresh, says_asked, says_fault, says_fresh, says_kept, says_need}
-use Rattle.sq_model_rows.specs.CheckRows.{after_step}
-use Rattle.sq_model_rows.specs.ClassRows.{ClassRow, with_took}
-use Rattle.sq_model_rows.specs.StepRows.{after_says, with_put}
-use Rattle.sq_model_laws.specs.ClassChanges.{after_said, with_put_for}
+use Rattle.sq_model.specs.CheckRows.{after_step}
+use Rattle.sq_model.specs.ClassRows.{ClassRow, with_took}
+use Rattle.sq_model.specs.StepRows.{after_says, with_put}
+use Rattle.sq_model.specs.ClassChanges.{after_said, with_put_for}
 use Rattle.sq_checks.specs.OpenChecks.{CheckParts, rows_of}
-use Rattle.sq_model_state.specs.Changes.{after_step_of}
-use Rattle.sq_model_state.specs.States.{IsSame}
+use Rattle.sq_model.specs.Changes.{after_step_of}
+use Rattle.sq_model.specs.States.{IsSame}
 use Rattle.sq_engine.specs.EngineViews.{EngineView, state_of}
 
 -- a step that says so puts a question for this class alone, and takes an answer of it alone

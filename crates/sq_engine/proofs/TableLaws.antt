@@ -3,7 +3,7 @@ use Rattle.std.proofs.Common.{◌≡◌, ◌∙◌, ◌==◌, ◌&&◌, ℕ, Lis
 use Rattle.std.specs.Option.{option_map}
 use Rattle.std.specs.Ordering.{is_eq, nat_cmp}
 use Rattle.sq_base.specs.declared.helpers.What.{What}
-use Rattle.sq_model_rows.specs.CheckRows.{held_at}
+use Rattle.sq_model.specs.CheckRows.{held_at}
 use Rattle.sq_checks.specs.OpenChecks.{CheckParts, all_before, all_ended, change_at, ended_by, row, rows_of, without_entry}
 use Rattle.sq_checks.specs.Tables.{value_at}
 

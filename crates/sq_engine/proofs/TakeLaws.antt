@@ -23,10 +23,10 @@ use Rattle.sq_checks.specs.declared.stages.CheckStage.TheVariants as stage
 use Rattle.sq_epochs.specs.EpochChanges.{HasLeft}
 use Rattle.sq_epochs.specs.EpochStates.{EpochsState, IsChanged}
 use Rattle.sq_epochs.specs.LiveEpochs.{checks_at}
-use Rattle.sq_model_state.specs.Answers.{take_answer, take_of_held}
-use Rattle.sq_model_state.specs.Changes.{after_take}
-use Rattle.sq_model_state.specs.Says.{outcome_in}
-use Rattle.sq_model_state.specs.States.{IsSame, State}
+use Rattle.sq_model.specs.Answers.{take_answer, take_of_held}
+use Rattle.sq_model.specs.Changes.{after_take}
+use Rattle.sq_model.specs.Says.{outcome_in}
+use Rattle.sq_model.specs.States.{IsSame, State}
 use Rattle.sq_engine.specs.Engines.{IsEngine, held_number}
 use Rattle.sq_engine.specs.EngineViews.{EngineView, state_of}
 use Rattle.sq_engine.specs.Stepping.{epoch_of}

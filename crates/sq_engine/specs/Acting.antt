@@ -14,10 +14,10 @@ use Rattle.sq_epochs.specs.DueStates.{due_of}
 use Rattle.sq_machine.specs.declared.acts.Act.{Act}
 use Rattle.sq_machine.specs.declared.acts.Act.TheVariants as act
 use Rattle.sq_machine.specs.DueActs.{Due, sends, starts, stops}
-use Rattle.sq_model_state.specs.Answers.{name_in}
-use Rattle.sq_model_state.specs.Changes.{after_send_at, after_start_at, after_stop_of}
-use Rattle.sq_model_state.specs.Promises.{IsAnswered, StandsFor}
-use Rattle.sq_model_state.specs.States.{State}
+use Rattle.sq_model.specs.Answers.{name_in}
+use Rattle.sq_model.specs.Changes.{after_send_at, after_start_at, after_stop_of}
+use Rattle.sq_model.specs.Promises.{IsAnswered, StandsFor}
+use Rattle.sq_model.specs.States.{State}
 use Rattle.sq_engine.specs.EngineViews.{EngineView}
 
 -- the next act of an engine

@@ -8,7 +8,7 @@ use Rattle.sq_checks.specs.Counts.{tally}
 use Rattle.sq_checks.specs.OpenChecks.{CheckParts, rows_of}
 use Rattle.sq_epochs.specs.EpochStates.{EpochState, EpochsState, epoch_at, home_at, row_at}
 use Rattle.sq_epochs.specs.HomeStates.{is_among}
-use Rattle.sq_model_state.specs.States.{State}
+use Rattle.sq_model.specs.States.{State}
 
 -- the open connections; the open checks; how many checks began and questions were put; the live
 -- epochs; the configuration of the current one; the offset of local time; and the greatest moment

@@ -4,7 +4,7 @@ use Rattle.std.specs.Option.{option_map}
 use Rattle.std.specs.declared.option.Option.{Option}
 use Rattle.sq_machine.specs.Limits.{last_number}
 use Rattle.sq_machine.specs.OpenLookups.{LookupRow, all_below, is_open_lookup, key_of, question_of}
-use Rattle.sq_model_rows.specs.CheckRows.{Held, held_on}
+use Rattle.sq_model.specs.CheckRows.{Held, held_on}
 use Rattle.sq_class.specs.Parts.{PartState}
 use Rattle.sq_checks.specs.Conns.{check_in}
 use Rattle.sq_checks.specs.OpenChecks.{AreAlone, CheckParts, all_before, of_epoch, rows_of}
@@ -12,7 +12,7 @@ use Rattle.sq_checks.specs.Stages.{need_in}
 use Rattle.sq_checks.specs.Tables.{value_at}
 use Rattle.sq_checks.specs.declared.stages.Need.{Need}
 use Rattle.sq_epochs.specs.EpochStates.{EpochState, epoch_at, part_at}
-use Rattle.sq_model_state.specs.States.{lives_with}
+use Rattle.sq_model.specs.States.{lives_with}
 use Rattle.sq_engine.specs.EngineViews.{EngineView, config_at, config_in}
 
 abbrev pub held_number : Held → ℕ

@@ -14,13 +14,13 @@ use Rattle.sq_machine.specs.Questions.{what_of}
 use Rattle.sq_channel.specs.Gots.{got_in}
 use Rattle.sq_channel.specs.declared.replies.Got.{Got}
 use Rattle.sq_channel.specs.declared.replies.Got.TheVariants as got
-use Rattle.sq_model_rows.specs.ClassRows.{ClassRow}
+use Rattle.sq_model.specs.ClassRows.{ClassRow}
 use Rattle.sq_checks.specs.OpenChecks.{CheckParts, change_at, ended_by}
 use Rattle.sq_engine.specs.declared.lines.Share.{Share}
-use Rattle.sq_model_state.specs.Answers.{channels_in}
-use Rattle.sq_model_state.specs.Changes.{after_end_at, after_reply_at}
-use Rattle.sq_model_state.specs.Says.{class_in}
-use Rattle.sq_model_state.specs.States.{IsSame, State}
+use Rattle.sq_model.specs.Answers.{channels_in}
+use Rattle.sq_model.specs.Changes.{after_end_at, after_reply_at}
+use Rattle.sq_model.specs.Says.{class_in}
+use Rattle.sq_model.specs.States.{IsSame, State}
 
 -- a line, as it is told
 abbrev pub got_told : Got → Told

@@ -18,10 +18,10 @@ use Rattle.sq_machine.specs.Machine.{next}
 use Rattle.sq_machine.specs.Next.{refuses}
 use Rattle.sq_machine.specs.Marking.{marked}
 use Rattle.sq_machine.specs.Readings.{latest}
-use Rattle.sq_model_laws.specs.Given.{EachOf}
-use Rattle.sq_model_state.specs.Answers.{name_in}
-use Rattle.sq_model_state.specs.Promises.{IsAnswered, StandsFor}
-use Rattle.sq_model_state.specs.States.{State}
+use Rattle.sq_model.specs.Given.{EachOf}
+use Rattle.sq_model.specs.Answers.{name_in}
+use Rattle.sq_model.specs.Promises.{IsAnswered, StandsFor}
+use Rattle.sq_model.specs.States.{State}
 
 -- a call answers the event at this moment as it is told, and leaves the new state; where memory is
 -- wanting, nothing is promised

@@ -13,14 +13,14 @@ use Rattle.sq_machine.specs.Machine.{step_next}
 use Rattle.sq_machine.specs.Next.{Next, refuses}
 use Rattle.sq_machine.specs.StepRule.{StepSays}
 use Rattle.sq_rules.specs.Verdicts.{verdict_over}
-use Rattle.sq_model_rows.specs.CheckRows.{Held, held_at}
+use Rattle.sq_model.specs.CheckRows.{Held, held_at}
 use Rattle.sq_checks.specs.OpenChecks.{says_waits}
-use Rattle.sq_model_rows.specs.declared.stepping.Stepped.{Stepped}
-use Rattle.sq_model_rows.specs.declared.stepping.Stepped.TheVariants as stepped
-use Rattle.sq_model_state.specs.Answers.{name_in}
-use Rattle.sq_model_state.specs.Changes.{after_step_of}
-use Rattle.sq_model_state.specs.Says.{says_in}
-use Rattle.sq_model_state.specs.States.{State}
+use Rattle.sq_model.specs.declared.stepping.Stepped.{Stepped}
+use Rattle.sq_model.specs.declared.stepping.Stepped.TheVariants as stepped
+use Rattle.sq_model.specs.Answers.{name_in}
+use Rattle.sq_model.specs.Changes.{after_step_of}
+use Rattle.sq_model.specs.Says.{says_in}
+use Rattle.sq_model.specs.States.{State}
 
 -- a check that waits for a question waits on
 abbrev pub says_of_wait : Option ℕ → StepSays → StepSays

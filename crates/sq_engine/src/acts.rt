@@ -1,8 +1,8 @@
 //! What is to be done next.
 ghost use Rattle.std.specs.Prelude.{◌≡◌, max, IfNone, IfOk, IfSome};
 ghost use Rattle.sq_epochs.specs.DueStates.{told_due};
-ghost use Rattle.sq_model_state.specs.Acts.{due_in};
-ghost use Rattle.sq_model_state.specs.States.{IsSame};
+ghost use Rattle.sq_model.specs.Acts.{due_in};
+ghost use Rattle.sq_model.specs.States.{IsSame};
 ghost use Rattle.sq_engine.specs.Acting.{IsActPromised, after_act, due_now};
 ghost use Rattle.sq_engine.specs.EngineViews.{state_of};
 

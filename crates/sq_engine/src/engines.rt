@@ -1,7 +1,7 @@
 //! `Engine`: the parts of the machine.
 ghost use Rattle.std.specs.Prelude.{◌<◌, IfOk};
-ghost use Rattle.sq_model_state.specs.Changes.{first_state};
-ghost use Rattle.sq_model_state.specs.States.{IsSame};
+ghost use Rattle.sq_model.specs.Changes.{first_state};
+ghost use Rattle.sq_model.specs.States.{IsSame};
 ghost use Rattle.sq_engine.specs.EngineViews.{state_of};
 ghost use Rattle.sq_engine.specs.Promised.{IsBegun};
 

@@ -1,7 +1,7 @@
 //! What can be read of open checks.
 ghost use Rattle.std.specs.Prelude.{◌≡◌};
 ghost use Rattle.std.specs.Option.{option_map};
-ghost use Rattle.sq_model_rows.specs.CheckRows.{held_at};
+ghost use Rattle.sq_model.specs.CheckRows.{held_at};
 ghost use Rattle.sq_engine.specs.EngineViews.{state_of};
 ghost use Rattle.sq_engine.specs.Engines.{IsEngine};
 

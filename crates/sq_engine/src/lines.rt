@@ -5,8 +5,8 @@ ghost use Rattle.sq_machine.specs.Channels.{is_open};
 ghost use Rattle.sq_machine.specs.Living.{slots_in};
 ghost use Rattle.sq_machine.specs.declared.entries.Event.TheVariants as event;
 ghost use Rattle.sq_epochs.specs.EpochStates.{home_at, part_at};
-ghost use Rattle.sq_model_state.specs.Answers.{line_answer};
-ghost use Rattle.sq_model_state.specs.States.{IsSame};
+ghost use Rattle.sq_model.specs.Answers.{line_answer};
+ghost use Rattle.sq_model.specs.States.{IsSame};
 ghost use Rattle.sq_engine.specs.Begun.{AreKept};
 ghost use Rattle.sq_engine.specs.EngineViews.{state_of};
 ghost use Rattle.sq_engine.specs.Lines.{IsLineDone, IsRead, IsReplied, all_given, got_told, share_of};
@@ -21,7 +21,7 @@ use sq_checks::OpenChecks;
 use sq_farm::Got;
 use sq_lookup::Checks;
 use sq_machine::{Refusal, later};
-use sq_model_laws::what_of;
+use sq_model::what_of;
 use std::alloc::Global;
 
 // A check's copy of what the question ended with that it waits for.

@@ -2,9 +2,9 @@
 ghost use Rattle.std.specs.Prelude.{◌≡◌, max, OnOk, OnErr};
 ghost use Rattle.sq_machine.specs.declared.entries.Event.TheVariants as event;
 ghost use Rattle.sq_machine.specs.declared.entries.Told.TheVariants as told;
-ghost use Rattle.sq_model_state.specs.Answers.{open_answer};
-ghost use Rattle.sq_model_state.specs.Changes.{after_open};
-ghost use Rattle.sq_model_state.specs.States.{IsSame};
+ghost use Rattle.sq_model.specs.Answers.{open_answer};
+ghost use Rattle.sq_model.specs.Changes.{after_open};
+ghost use Rattle.sq_model.specs.States.{IsSame};
 ghost use Rattle.sq_engine.specs.EngineViews.{state_of};
 ghost use Rattle.sq_engine.specs.Promised.{IsPromised};
 ghost use Rattle.sq_engine.specs.Tellings.{IsTold};

@@ -1,9 +1,9 @@
 //! Another configuration.
 ghost use Rattle.std.specs.Prelude.{◌≡◌, max, OnOk, OnErr};
 ghost use Rattle.sq_machine.specs.declared.entries.Told.TheVariants as told;
-ghost use Rattle.sq_model_state.specs.Answers.{reconfigure_answer};
-ghost use Rattle.sq_model_state.specs.Changes.{after_reconfigured};
-ghost use Rattle.sq_model_state.specs.States.{IsSame};
+ghost use Rattle.sq_model.specs.Answers.{reconfigure_answer};
+ghost use Rattle.sq_model.specs.Changes.{after_reconfigured};
+ghost use Rattle.sq_model.specs.States.{IsSame};
 ghost use Rattle.sq_engine.specs.EngineViews.{state_of};
 ghost use Rattle.sq_engine.specs.Promised.{IsPromisedNext};
 ghost use Rattle.sq_engine.specs.Tellings.{IsTold};

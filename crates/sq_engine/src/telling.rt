@@ -2,7 +2,7 @@
 ghost use Rattle.std.specs.Prelude.{◌≡◌, true, IfOk};
 ghost use Rattle.sq_machine.specs.Entries.{is_row};
 ghost use Rattle.sq_machine.specs.declared.entries.Event.TheVariants as event;
-ghost use Rattle.sq_model_state.specs.Answers.{name_in};
+ghost use Rattle.sq_model.specs.Answers.{name_in};
 ghost use Rattle.sq_engine.specs.Acting.{told_of_act};
 ghost use Rattle.sq_engine.specs.EngineViews.{state_of};
 

@@ -12,7 +12,7 @@ use Rattle.sq_channel.proofs.RisingLaws.{if_false, if_true}
 use Rattle.sq_rules.specs.Classes.{Class}
 use Rattle.sq_rules.specs.Configurations.{Configuration}
 use Rattle.sq_machine.specs.Rising.{AreAbove, AreBelow, Rises, place_among}
-use Rattle.sq_model_rows.specs.ClassRows.{ClassRow, new_row}
+use Rattle.sq_model.specs.ClassRows.{ClassRow, new_row}
 use Rattle.sq_class.specs.Parts.{PartState}
 use Rattle.sq_epochs.specs.EpochStates.{EpochState, EpochsState, change_epoch, class_at, class_of, epoch_at, epoch_in, epoch_number, new_epoch, part_at, part_of, row_at}
 use Rattle.sq_epochs.specs.LiveEpochs.{AreEpochs, checks_at, has_checks, is_used, without_epoch}

@@ -10,7 +10,7 @@ use Rattle.sq_base.specs.declared.helpers.What.{What}
 use Rattle.sq_lookup.specs.Waits.{has_check}
 use Rattle.sq_rules.specs.Classes.{Class}
 use Rattle.sq_machine.specs.OpenLookups.{question_of, waits_in}
-use Rattle.sq_model_rows.specs.ClassRows.{after_reply}
+use Rattle.sq_model.specs.ClassRows.{after_reply}
 use Rattle.sq_machine.specs.Farms.{failed}
 use Rattle.sq_class.specs.Losing.{IsHandedOut}
 use Rattle.sq_class.specs.declared.lost.Lost.{Lost}

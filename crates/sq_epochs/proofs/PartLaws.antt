@@ -6,8 +6,8 @@ use Rattle.std.proofs.lemmas.Option.{same_Some, slice_get_read, slice_get_within
 use Rattle.std.proofs.Math.Seq.{map-set_same}
 use Rattle.sq_rules.specs.Classes.{Class}
 use Rattle.sq_machine.specs.Rising.{place_among}
-use Rattle.sq_model_rows.specs.StepRows.{says_of_row}
-use Rattle.sq_model_rows.specs.declared.stepping.StepEffect.{StepEffect}
+use Rattle.sq_model.specs.StepRows.{says_of_row}
+use Rattle.sq_model.specs.declared.stepping.StepEffect.{StepEffect}
 use Rattle.sq_class.specs.Parts.{IsAsBefore, PartState}
 use Rattle.sq_class.specs.Steps.{IsSpent}
 use Rattle.sq_class.specs.declared.faults.ResolveFault.{ResolveFault}

@@ -14,9 +14,9 @@ use Rattle.sq_machine.specs.Farms.{Stock, Waiting, after_send, after_send_by, af
 use Rattle.sq_machine.specs.Living.{Living, asked_row, find_proc, has_free, lives, sent, settled_in, some_free, with_proc, without}
 use Rattle.sq_machine.specs.Marks.{Put}
 use Rattle.sq_machine.specs.StepRule.{StepSays}
-use Rattle.sq_model_rows.specs.ClassRows.{ClassRow, after_reply, with_took}
-use Rattle.sq_model_rows.specs.StepRows.{after_says, says_of_row, with_put}
-use Rattle.sq_model_rows.specs.declared.stepping.StepEffect.{StepEffect}
+use Rattle.sq_model.specs.ClassRows.{ClassRow, after_reply, with_took}
+use Rattle.sq_model.specs.StepRows.{after_says, says_of_row, with_put}
+use Rattle.sq_model.specs.declared.stepping.StepEffect.{StepEffect}
 use Rattle.sq_class.specs.Losing.{IsHandedOut}
 use Rattle.sq_class.specs.Parts.{IsAsBefore, PartState}
 use Rattle.sq_class.specs.declared.faults.ResolveFault.{ResolveFault}

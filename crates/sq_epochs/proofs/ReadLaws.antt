@@ -5,7 +5,7 @@ use Rattle.std.specs.Option.{option_map, option_or}
 use Rattle.std.specs.declared.option.Option.{Option}
 use Rattle.sq_channel.proofs.RisingLaws.{if_false}
 use Rattle.sq_machine.specs.DueActs.{ClassId}
-use Rattle.sq_model_rows.specs.ClassRows.{ClassRow}
+use Rattle.sq_model.specs.ClassRows.{ClassRow}
 use Rattle.sq_class.specs.Parts.{PartState}
 use Rattle.sq_epochs.specs.DueStates.{change_at, change_class, change_part}
 use Rattle.sq_epochs.specs.EpochProcs.{IsStarted}

@@ -6,7 +6,7 @@ use Rattle.std.specs.declared.option.Option.{Option}
 use Rattle.sq_machine.specs.DueActs.{ClassId, Due, first_made, first_of, sends, starts, stops}
 use Rattle.sq_machine.specs.Farms.{send_of, start_due}
 use Rattle.sq_machine.specs.Numbered.{below}
-use Rattle.sq_model_rows.specs.ClassRows.{after_sending, after_starting}
+use Rattle.sq_model.specs.ClassRows.{after_sending, after_starting}
 use Rattle.sq_class.specs.Parts.{PartState}
 use Rattle.sq_machine.specs.declared.acts.Act.{Act}
 use Rattle.sq_machine.specs.declared.acts.Act.TheVariants as act

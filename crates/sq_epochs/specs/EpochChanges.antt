@@ -3,12 +3,12 @@ use Rattle.std.specs.Prelude.{◌≡◌, ℕ, ◌==◌, ◌&&◌, if◌then◌el
 use Rattle.sq_base.specs.declared.helpers.Cause.TheVariants as cause
 use Rattle.sq_rules.specs.Classes.{Class}
 use Rattle.sq_machine.specs.OpenLookups.{question_of, waits_in}
-use Rattle.sq_model_rows.specs.StepRows.{says_of_row}
-use Rattle.sq_model_rows.specs.declared.stepping.StepEffect.{StepEffect}
+use Rattle.sq_model.specs.StepRows.{says_of_row}
+use Rattle.sq_model.specs.declared.stepping.StepEffect.{StepEffect}
 use Rattle.sq_base.specs.declared.helpers.What.{What}
 use Rattle.sq_lookup.specs.Waits.{has_check}
 use Rattle.sq_machine.specs.Farms.{failed, is_last_start}
-use Rattle.sq_model_rows.specs.ClassRows.{after_failed, after_reply, is_waiting}
+use Rattle.sq_model.specs.ClassRows.{after_failed, after_reply, is_waiting}
 use Rattle.sq_class.specs.Losing.{IsHandedOut, handed_out, lost_cause}
 use Rattle.sq_class.specs.declared.lost.Lost.{Lost}
 use Rattle.sq_class.specs.Parts.{PartState}

@@ -8,7 +8,7 @@ use Rattle.sq_machine.specs.Channels.{is_open}
 use Rattle.sq_machine.specs.DueActs.{ClassId}
 use Rattle.sq_machine.specs.Farms.{ended}
 use Rattle.sq_machine.specs.Living.{lives, slots_in}
-use Rattle.sq_model_rows.specs.ClassRows.{after_death, after_started}
+use Rattle.sq_model.specs.ClassRows.{after_death, after_started}
 use Rattle.sq_class.specs.Losing.{handed_out, lost_cause}
 use Rattle.sq_class.specs.Parts.{PartState}
 use Rattle.sq_epochs.specs.EpochStates.{EpochState, EpochsState, IsChanged, home_at, part_at}

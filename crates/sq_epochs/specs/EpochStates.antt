@@ -5,7 +5,7 @@ use Rattle.std.specs.declared.option.Option.{Option}
 use Rattle.sq_rules.specs.Classes.{Class}
 use Rattle.sq_rules.specs.Configurations.{Configuration}
 use Rattle.sq_machine.specs.DueActs.{ClassId}
-use Rattle.sq_model_rows.specs.ClassRows.{ClassRow, new_row}
+use Rattle.sq_model.specs.ClassRows.{ClassRow, new_row}
 use Rattle.sq_class.specs.Parts.{PartState}
 use Rattle.sq_epochs.specs.HomeStates.{Home, home_in}
 

@@ -7,7 +7,7 @@ use Rattle.sq_rules.specs.Classes.{Class}
 use Rattle.sq_rules.specs.Configurations.{Configuration}
 use Rattle.sq_rules.specs.AlikeClasses.{is_alike}
 use Rattle.sq_machine.specs.KeptLists.{CachedReplies}
-use Rattle.sq_model_rows.specs.ClassRows.{new_row}
+use Rattle.sq_model.specs.ClassRows.{new_row}
 use Rattle.sq_class.specs.Parts.{PartState}
 use Rattle.sq_epochs.specs.EpochStates.{EpochState, EpochsState, change_epoch, epoch_in}
 use Rattle.sq_epochs.specs.LiveEpochs.{checks_at, drop_epoch}

@@ -2,9 +2,9 @@
 use Rattle.std.proofs.Common.{◌≡◌, ◌==◌, ℕ, ◌≤◌, List, ◌∷◌, Bool, true, false, if◌then◌else◌, max, Option, Some, None, option_map, Result, Ok, Err, OnErr, IfOk, refl, sym, subst, ap, ◌∙◌, arith}
 use Rattle.std.proofs.lemmas.Option.{none-some}
 use Rattle.sq_base.specs.Requests.{HttpRequest}
-use Rattle.sq_model_rows.specs.CheckRows.{Held, held_at}
-use Rattle.sq_model_rows.specs.declared.stepping.Stepped.{Stepped}
-use Rattle.sq_model_rows.specs.declared.stepping.Stepped.TheVariants as stepped
+use Rattle.sq_model.specs.CheckRows.{Held, held_at}
+use Rattle.sq_model.specs.declared.stepping.Stepped.{Stepped}
+use Rattle.sq_model.specs.declared.stepping.Stepped.TheVariants as stepped
 use Rattle.sq_rules.specs.Configurations.{Configuration}
 use Rattle.sq_machine.specs.Entries.{History, entry_at}
 use Rattle.sq_machine.specs.Machine.{next}
@@ -24,9 +24,9 @@ use Rattle.sq_checks.specs.Records.{Judged, judged_of}
 use Rattle.sq_checks.specs.Tables.{value_at}
 use Rattle.sq_rewrite.specs.States.{RewriteState}
 use Rattle.sq_conn_policy.specs.Tellings.{DelayPools}
-use Rattle.sq_model_state.specs.Answers.{take_answer, take_of_held}
-use Rattle.sq_model_state.specs.Promises.{IsAnswered, StandsFor}
-use Rattle.sq_model_state.specs.States.{IsSame, State, is_of_pools, machine_moment}
+use Rattle.sq_model.specs.Answers.{take_answer, take_of_held}
+use Rattle.sq_model.specs.Promises.{IsAnswered, StandsFor}
+use Rattle.sq_model.specs.States.{IsSame, State, is_of_pools, machine_moment}
 use Rattle.sq_engine.proofs.TableLaws.{row_at_number}
 use Rattle.sq_engine.specs.Begun as engine
 use Rattle.sq_engine.specs.Begun.{Begun, HasBegun, begun_at, looked_more}

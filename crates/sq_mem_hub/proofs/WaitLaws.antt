@@ -21,10 +21,10 @@ use Rattle.sq_rewrite.specs.declared.rewritings.Rewriting.{Rewriting}
 use Rattle.sq_rules.specs.declared.sights.Sight.{Sight}
 use Rattle.sq_checks.specs.Records.{Judged}
 use Rattle.sq_conn_policy.specs.Tellings.{DelayPools}
-use Rattle.sq_model_state.proofs.Lawful.{stands_same}
-use Rattle.sq_model_state.specs.Answers.{name_in}
-use Rattle.sq_model_state.specs.Promises.{IsAnswered, StandsFor}
-use Rattle.sq_model_state.specs.States.{IsSame, is_of_pools}
+use Rattle.sq_model.proofs.Lawful.{stands_same}
+use Rattle.sq_model.specs.Answers.{name_in}
+use Rattle.sq_model.specs.Promises.{IsAnswered, StandsFor}
+use Rattle.sq_model.specs.States.{IsSame, is_of_pools}
 use Rattle.sq_engine.specs.Acting.{IsActPromised, told_of_act}
 use Rattle.sq_engine.specs.EngineViews.{EngineView, state_of}
 use Rattle.sq_engine.specs.Promised.{IsPromised, IsPromisedAt}

@@ -17,7 +17,7 @@ use sq_checks::Record;
 use sq_conn_policy::{Hub, HubFault};
 use sq_engine::Engine;
 use sq_machine::{Offset, Refusal};
-use sq_model_rows::Stepped;
+use sq_model::Stepped;
 use sq_outside::{raised, raised_by};
 use sq_pools::{ChooseFault, Pools, Seat, TagPools, TagSeat};
 use sq_rewrite::{RewriteFault, Rewriter, Rewriting};
@@ -134,7 +134,7 @@ impl<'a, R: Wait> MemHub<'a, R> {
     ghost use Rattle.std.specs.Prelude.{IfOk, List, [], pos};
     ghost use Rattle.sq_rules.specs.Configurations.{Configuration, IsConfiguration};
     ghost use Rattle.sq_machine.specs.Epochs.{config_of};
-    ghost use Rattle.sq_model_laws.specs.Given.{EachOf};
+    ghost use Rattle.sq_model.specs.Given.{EachOf};
     ghost use Rattle.sq_machine.specs.Entries.{entry_at};
     ghost use Rattle.sq_engine.specs.EngineViews.{state_of};
     ghost use Rattle.sq_machine.specs.declared.entries.Event.TheVariants as event;

@@ -10,8 +10,8 @@ use Rattle.sq_machine.specs.Entries.{History}
 use Rattle.sq_machine.specs.Events.{begins_epoch}
 use Rattle.sq_machine.specs.Epochs.{config_of}
 use Rattle.sq_machine.specs.Readings.{current, epoch_after}
-use Rattle.sq_model_laws.specs.Given.{EachOf}
-use Rattle.sq_model_state.specs.Sources.{AreSourced, IsSourced}
+use Rattle.sq_model.specs.Given.{EachOf}
+use Rattle.sq_model.specs.Sources.{AreSourced, IsSourced}
 use Rattle.sq_calls.specs.Legality.{Beginning, IsLegal, IsStated}
 use Rattle.sq_replay.specs.Headline.{AreAccepted, IsAccepted}
 use Rattle.sq_replay.proofs.HeadlineLaws.{history_true}

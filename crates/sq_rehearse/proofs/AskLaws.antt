@@ -37,7 +37,7 @@ use Rattle.sq_machine.specs.Checks.{ask_count, ask_of, check_open, epoch_of, is_
 use Rattle.sq_machine.specs.Questions.{pending, put_count}
 use Rattle.sq_machine.specs.KeptReadings.{kept}
 use Rattle.sq_machine.specs.StepRule.{StepSays, says_asked, says_fault, says_fresh, says_need, step_says}
-use Rattle.sq_model_laws.proofs.RuleLaws.{SaysOf, step_is}
+use Rattle.sq_model.proofs.RuleLaws.{SaysOf, step_is}
 use Rattle.sq_machine.specs.Transcripts.{LineIs, OnFree, Outside, ReplyTo, channels_of, line_is, line_told}
 use Rattle.sq_replay.specs.RunText.{first_history}
 use Rattle.sq_rehearse.specs.declared.drivers.Driver.{Driver}

@@ -12,7 +12,7 @@ use Rattle.sq_machine.specs.Events.{has_target, is_begin}
 use Rattle.sq_machine.specs.Next.{Next, gives, nothing, refuses}
 use Rattle.sq_machine.specs.Marking.{marked}
 use Rattle.sq_machine.specs.Readings.{latest}
-use Rattle.sq_model_state.proofs.PromiseLaws.{legal_more}
+use Rattle.sq_model.proofs.PromiseLaws.{legal_more}
 use Rattle.sq_replay.specs.declared.ends.RunEnd.TheVariants as ends
 use Rattle.sq_replay.specs.RunText.{Shelf, acts, answered as line_answered, asked_next, event_step, first_history}
 use Rattle.sq_replay.proofs.RunLaws.{event_made}

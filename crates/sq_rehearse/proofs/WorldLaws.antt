@@ -22,7 +22,7 @@ use Rattle.sq_machine.specs.Next.{gives, refuse_if, refuse_open}
 use Rattle.sq_machine.proofs.CheckLaws.{ask_count_more, ask_of_kept, ask_of_more, none_numbered}
 use Rattle.sq_machine.proofs.ConnectionLaws.{open_count_closed, open_count_opened, open_count_quiet, peer_at_more}
 use Rattle.sq_machine.proofs.OpenCheckLaws.{open_check_found}
-use Rattle.sq_model_laws.proofs.LegalLaws.{marked_entries}
+use Rattle.sq_model.proofs.LegalLaws.{marked_entries}
 use Rattle.sq_rehearse.specs.declared.stages.Pending.{Pending}
 
 -- connections

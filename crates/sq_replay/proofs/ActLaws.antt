@@ -16,18 +16,18 @@ use Rattle.sq_machine.specs.Marks.{Past, entries}
 use Rattle.sq_machine.specs.Numbered.{below, picks}
 use Rattle.sq_machine.specs.Processes.{proc_count, stop_due}
 use Rattle.sq_machine.specs.Readings.{latest}
-use Rattle.sq_model_rows.specs.CheckRows.{Held}
-use Rattle.sq_model_laws.specs.Given.{EachOf}
-use Rattle.sq_model_laws.proofs.RowLaws.{picks_same}
-use Rattle.sq_model_state.specs.Acts.{due_in, live_places_in, places_in}
-use Rattle.sq_model_state.specs.Answers.{act_of, due_told}
-use Rattle.sq_model_state.specs.Promises.{IsAnswered, StandsFor}
-use Rattle.sq_model_state.specs.States.{IsSame, Stands, State, lives_with}
-use Rattle.sq_model_state.proofs.ActNext.{act_next_is}
-use Rattle.sq_model_state.proofs.ActPromises.{send_answered, start_answered, stop_answered}
-use Rattle.sq_model_state.proofs.ActStands.{send_stands, start_stands, stop_stands}
-use Rattle.sq_model_state.proofs.Lawful.{Lawful, lawful}
-use Rattle.sq_model_state.proofs.PromiseLaws.{legal_more, next_now}
+use Rattle.sq_model.specs.CheckRows.{Held}
+use Rattle.sq_model.specs.Given.{EachOf}
+use Rattle.sq_model.proofs.RowLaws.{picks_same}
+use Rattle.sq_model.specs.Acts.{due_in, live_places_in, places_in}
+use Rattle.sq_model.specs.Answers.{act_of, due_told}
+use Rattle.sq_model.specs.Promises.{IsAnswered, StandsFor}
+use Rattle.sq_model.specs.States.{IsSame, Stands, State, lives_with}
+use Rattle.sq_model.proofs.ActNext.{act_next_is}
+use Rattle.sq_model.proofs.ActPromises.{send_answered, start_answered, stop_answered}
+use Rattle.sq_model.proofs.ActStands.{send_stands, start_stands, stop_stands}
+use Rattle.sq_model.proofs.Lawful.{Lawful, lawful}
+use Rattle.sq_model.proofs.PromiseLaws.{legal_more, next_now}
 use Rattle.sq_engine.specs.Acting.{after_due}
 use Rattle.sq_replay.specs.Dues.{NoneDue, dues, dues_at, dues_in, dues_of_row, state_at, total}
 use Rattle.sq_replay.specs.RunText.{acted, acts, acts_upto}

@@ -9,8 +9,8 @@ use Rattle.sq_machine.specs.Marking.{marked}
 use Rattle.sq_epochs.specs.DueStates.{told_act}
 use Rattle.sq_machine.specs.declared.acts.Act.{Act}
 use Rattle.sq_machine.specs.DueActs.{Due, sends, starts, stops}
-use Rattle.sq_model_state.specs.Acts.{due_in}
-use Rattle.sq_model_state.specs.States.{IsSame, State}
+use Rattle.sq_model.specs.Acts.{due_in}
+use Rattle.sq_model.specs.States.{IsSame, State}
 use Rattle.sq_engine.specs.Acting.{IsActPromised, after_act, told_of_act}
 use Rattle.sq_replay.specs.Riding.{AreBasins}
 use Rattle.sq_replay.proofs.PairLaws.{is_elsewhere}

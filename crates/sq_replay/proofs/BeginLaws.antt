@@ -13,7 +13,7 @@ use Rattle.sq_rules.specs.Configurations.{Configuration, IsConfiguration}
 use Rattle.sq_machine.specs.Entries.{History}
 use Rattle.sq_machine.specs.Epochs.{config_of}
 use Rattle.sq_machine.specs.Readings.{current}
-use Rattle.sq_model_laws.specs.Given.{EachOf}
+use Rattle.sq_model.specs.Given.{EachOf}
 use Rattle.sq_journal.specs.EntryText.{written}
 use Rattle.sq_replay.specs.declared.beginning.FirstEvent.{FirstEvent}
 use Rattle.sq_replay.specs.declared.beginning.FirstEvent.TheVariants as first

@@ -9,12 +9,12 @@ use Rattle.sq_machine.specs.DueActs.{ClassId, Due, first_made, first_of, sends, 
 use Rattle.sq_machine.specs.Farms.{Sending, Stock, Waiting, after_send, after_send_by, after_start, send_by, send_of, start_due}
 use Rattle.sq_machine.specs.Living.{Living, asked_row, has_free, sent, some_free, target}
 use Rattle.sq_machine.specs.Numbered.{picks}
-use Rattle.sq_model_rows.specs.ClassRows.{ClassRow, after_sending, after_starting}
-use Rattle.sq_model_laws.proofs.ClassParts.{equal, itself}
-use Rattle.sq_model_state.specs.Acts.{due_in, live_places_in, send_in, start_in}
-use Rattle.sq_model_state.specs.Changes.{after_send_at, after_start_at, after_stop_of, change_row, is_at}
-use Rattle.sq_model_state.specs.States.{State}
-use Rattle.sq_model_state.proofs.ActNext.{due_send_is, due_start_is}
+use Rattle.sq_model.specs.ClassRows.{ClassRow, after_sending, after_starting}
+use Rattle.sq_model.proofs.ClassParts.{equal, itself}
+use Rattle.sq_model.specs.Acts.{due_in, live_places_in, send_in, start_in}
+use Rattle.sq_model.specs.Changes.{after_send_at, after_start_at, after_stop_of, change_row, is_at}
+use Rattle.sq_model.specs.States.{State}
+use Rattle.sq_model.proofs.ActNext.{due_send_is, due_start_is}
 use Rattle.sq_replay.specs.Dues.{dues_at, dues_in, dues_of_row, dues_of_stock, total}
 
 -- numbers that a test picks

@@ -17,15 +17,15 @@ use Rattle.sq_machine.specs.Marking.{marked}
 use Rattle.sq_machine.specs.PoolHistories.{Addressed, PoolKind, Tagged, pool_history}
 use Rattle.sq_machine.specs.Readings.{current, latest}
 use Rattle.sq_machine.specs.TakenRecords.{allowed_of, taken_answers}
-use Rattle.sq_model_laws.specs.Given.{EachOf}
-use Rattle.sq_model_laws.proofs.LegalLaws.{marked_entries}
+use Rattle.sq_model.specs.Given.{EachOf}
+use Rattle.sq_model.proofs.LegalLaws.{marked_entries}
 use Rattle.sq_pools.specs.Basins.{Basin, IsBasin, IsRenewed, IsTagRenewed, made_in}
 use Rattle.sq_pools.specs.Stands.{PoolsStand}
 use Rattle.sq_pools.proofs.StandLaws.{moment_is, none_ahead}
-use Rattle.sq_model_state.specs.Answers.{busy_in, reconfigure_answer}
-use Rattle.sq_model_state.specs.Promises.{IsAnswered, StandsFor}
-use Rattle.sq_model_state.specs.States.{State, machine_moment}
-use Rattle.sq_model_state.proofs.PromiseLaws.{machine_first}
+use Rattle.sq_model.specs.Answers.{busy_in, reconfigure_answer}
+use Rattle.sq_model.specs.Promises.{IsAnswered, StandsFor}
+use Rattle.sq_model.specs.States.{State, machine_moment}
+use Rattle.sq_model.proofs.PromiseLaws.{machine_first}
 use Rattle.sq_engine.specs.Promised.{IsBegun, IsPromised, IsPromisedNext}
 use Rattle.sq_replay.specs.Making.{IsMaking, IsReconfiguring, IsRefusal, MayStand, is_refused, stop_for}
 use Rattle.sq_replay.specs.Riding.{AreBasins, AreRenewed, HaveBegun}

@@ -23,13 +23,13 @@ use Rattle.sq_machine.specs.PoolReadings.{PoolEntry, PoolHistory, grant_of, in_u
 use Rattle.sq_machine.specs.Readings.{current, latest}
 use Rattle.sq_machine.specs.SeatPlaces.{seat_place}
 use Rattle.sq_machine.specs.TakenRecords.{allowed_of, taken_answers}
-use Rattle.sq_model_laws.specs.Faithful.{IsFaithful, IsJudgedSo, JudgedSo}
-use Rattle.sq_model_laws.specs.Given.{EachOf}
-use Rattle.sq_model_laws.proofs.FaithfulLaws.{legal_faithful}
+use Rattle.sq_model.specs.Faithful.{IsFaithful, IsJudgedSo, JudgedSo}
+use Rattle.sq_model.specs.Given.{EachOf}
+use Rattle.sq_model.proofs.FaithfulLaws.{legal_faithful}
 use Rattle.sq_pools.specs.Flows.{AreGrants}
 use Rattle.sq_pools.specs.Stands.{entry}
 use Rattle.sq_pools.proofs.HistoryLaws.{books_balance, grants_within_levels}
-use Rattle.sq_model_state.proofs.PromiseLaws.{next_now}
+use Rattle.sq_model.proofs.PromiseLaws.{next_now}
 use Rattle.sq_replay.specs.Headline.{AreBalanced, AreWithinLevels, IsTrue, IsTrueOrNone}
 use Rattle.sq_replay.specs.RunText.{Shelf, configs_of, run_script}
 use Rattle.sq_replay.proofs.KindLaws.{apart_kinds}

@@ -30,21 +30,21 @@ use Rattle.sq_machine.specs.declared.places.SeatPlace.{SeatPlace}
 use Rattle.sq_machine.specs.declared.places.SeatPlace.TheVariants.{Nowhere, ByAddress, ByTag}
 use Rattle.sq_machine.proofs.TakenLaws.{allowed_epoch}
 use Rattle.sq_machine.specs.Readings.{current, latest}
-use Rattle.sq_model_laws.specs.Given.{EachOf}
-use Rattle.sq_model_laws.proofs.LegalLaws.{marked_entries}
+use Rattle.sq_model.specs.Given.{EachOf}
+use Rattle.sq_model.proofs.LegalLaws.{marked_entries}
 use Rattle.sq_journal.specs.EntryText.{entry_line, written}
 use Rattle.sq_pools.specs.Basins.{Basin, HasLeft, HasPassed, IsChosen, IsGranted, IsRenewed, IsTagChosen, IsTagRenewed, grant_in, seat_in}
 use Rattle.sq_pools.specs.Stands.{PoolsStand, entry}
 use Rattle.sq_pools.proofs.StandLaws.{grant_elsewhere, grant_is, grant_stands, leave_elsewhere, leave_stands, new_stands, pass_stands, renew_stands, sit_stands}
 use Rattle.sq_machine.specs.DueActs.{Due}
-use Rattle.sq_model_state.specs.Acts.{due_in}
-use Rattle.sq_model_state.specs.Answers.{due_told}
-use Rattle.sq_model_state.specs.Promises.{IsAnswered}
-use Rattle.sq_model_state.specs.Changes.{first_state}
-use Rattle.sq_model_state.specs.States.{IsSame, State}
-use Rattle.sq_model_state.proofs.ActPromises.{none_due}
-use Rattle.sq_model_state.proofs.Lawful.{stands_same}
-use Rattle.sq_model_state.proofs.PromiseLaws.{answered_same, first_for, grant_answered, leave_answered, next_now, seat_answered}
+use Rattle.sq_model.specs.Acts.{due_in}
+use Rattle.sq_model.specs.Answers.{due_told}
+use Rattle.sq_model.specs.Promises.{IsAnswered}
+use Rattle.sq_model.specs.Changes.{first_state}
+use Rattle.sq_model.specs.States.{IsSame, State}
+use Rattle.sq_model.proofs.ActPromises.{none_due}
+use Rattle.sq_model.proofs.Lawful.{stands_same}
+use Rattle.sq_model.proofs.PromiseLaws.{answered_same, first_for, grant_answered, leave_answered, next_now, seat_answered}
 use Rattle.sq_replay.specs.declared.ends.RunEnd.TheVariants as ends
 use Rattle.sq_engine.specs.Acting.{after_due}
 use Rattle.sq_replay.specs.Making.{is_refused}

@@ -17,15 +17,15 @@ use Rattle.sq_machine.specs.Machine.{next}
 use Rattle.sq_machine.specs.Next.{refuses}
 use Rattle.sq_machine.specs.Marking.{marked}
 use Rattle.sq_machine.specs.Readings.{latest}
-use Rattle.sq_model_rows.specs.CheckRows.{Held, held_at}
-use Rattle.sq_model_rows.specs.declared.stepping.Stepped.{Stepped}
-use Rattle.sq_model_rows.specs.declared.stepping.Stepped.TheVariants as stepped
+use Rattle.sq_model.specs.CheckRows.{Held, held_at}
+use Rattle.sq_model.specs.declared.stepping.Stepped.{Stepped}
+use Rattle.sq_model.specs.declared.stepping.Stepped.TheVariants as stepped
 use Rattle.sq_machine.specs.declared.acts.Act.{Act}
 use Rattle.sq_machine.specs.declared.acts.Act.TheVariants as act
 use Rattle.sq_machine.specs.DueActs.{Due}
-use Rattle.sq_model_state.specs.Answers.{name_in}
-use Rattle.sq_model_state.specs.Promises.{IsAnswered, StandsFor}
-use Rattle.sq_model_state.specs.States.{IsSame, State}
+use Rattle.sq_model.specs.Answers.{name_in}
+use Rattle.sq_model.specs.Promises.{IsAnswered, StandsFor}
+use Rattle.sq_model.specs.States.{IsSame, State}
 use Rattle.sq_engine.proofs.ConfigLaws.{acted_config}
 use Rattle.sq_engine.specs.Acting.{after_act, told_of_act}
 use Rattle.sq_engine.specs.Promised.{IsPromisedAt}

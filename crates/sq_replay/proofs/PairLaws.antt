@@ -23,7 +23,7 @@ use Rattle.sq_machine.specs.SeatPlaces.{seat_place}
 use Rattle.sq_machine.specs.TakenRecords.{allowed_of, taken_answers}
 use Rattle.sq_machine.specs.declared.places.SeatPlace.{SeatPlace}
 use Rattle.sq_machine.specs.declared.places.SeatPlace.TheVariants.{Nowhere, ByAddress, ByTag}
-use Rattle.sq_model_laws.proofs.LegalLaws.{marked_entries}
+use Rattle.sq_model.proofs.LegalLaws.{marked_entries}
 use Rattle.sq_pools.specs.Basins.{Basin, IsBasin, seat_in}
 use Rattle.sq_pools.specs.Stands.{PoolsStand, entry}
 use Rattle.sq_pools.proofs.StandLaws.{rest_stands}

@@ -28,17 +28,17 @@ use Rattle.sq_rules.specs.Verdicts.{pool_from, pool_of}
 use Rattle.sq_rules.specs.Values.{answer_for}
 use Rattle.sq_rules.specs.Walks.{rules_walk, walk_over}
 use Rattle.sq_rules.proofs.SightLaws.{key_unversioned, taken_unversioned}
-use Rattle.sq_model_rows.specs.CheckRows.{Held, held_at}
+use Rattle.sq_model.specs.CheckRows.{Held, held_at}
 use Rattle.sq_checks.specs.OpenChecks.{CheckParts, answers_in, row, rows_of}
 use Rattle.sq_checks.specs.Records.{Judged, TakesClient, judged_of}
 use Rattle.sq_checks.specs.Stages.{came_in, is_done_in}
 use Rattle.sq_checks.specs.Tables.{value_at}
 use Rattle.sq_checks.specs.declared.stages.CheckStage.{CheckStage}
 use Rattle.sq_checks.specs.declared.stages.CheckStage.TheVariants as stage
-use Rattle.sq_model_state.specs.Answers.{take_answer, take_of_held}
-use Rattle.sq_model_state.specs.Promises.{IsAnswered, StandsFor}
-use Rattle.sq_model_state.specs.Says.{outcome_in}
-use Rattle.sq_model_state.specs.States.{State}
+use Rattle.sq_model.specs.Answers.{take_answer, take_of_held}
+use Rattle.sq_model.specs.Promises.{IsAnswered, StandsFor}
+use Rattle.sq_model.specs.Says.{outcome_in}
+use Rattle.sq_model.specs.States.{State}
 use Rattle.sq_engine.specs.EngineViews.{EngineView, state_of}
 use Rattle.sq_engine.specs.Engines.{IsEngine}
 use Rattle.sq_engine.proofs.TableLaws.{row_at_number}

@@ -19,7 +19,7 @@ use Rattle.sq_machine.specs.Events.{has_target, is_begin}
 use Rattle.sq_machine.specs.Next.{Next, gives, nothing, refuses}
 use Rattle.sq_machine.specs.Marking.{marked}
 use Rattle.sq_machine.specs.Readings.{current, latest}
-use Rattle.sq_model_state.proofs.PromiseLaws.{legal_more}
+use Rattle.sq_model.proofs.PromiseLaws.{legal_more}
 use Rattle.sq_replay.specs.declared.ends.RunEnd.{RunEnd}
 use Rattle.sq_replay.specs.declared.ends.RunEnd.TheVariants as ends
 use Rattle.sq_replay.specs.RunText.{ScriptRun, Shelf, accepted, acts, answered, asked_next, begun_history, event_step, first_history, line_step, reconfigured, run_first, run_from, run_lines, run_on, run_over, run_stated, stated, stated_step, stopped}

@@ -11,7 +11,7 @@ use Rattle.sq_machine.specs.Events.{begins_epoch}
 use Rattle.sq_machine.specs.Machine.{Legal}
 use Rattle.sq_machine.specs.Epochs.{config_of}
 use Rattle.sq_machine.specs.Readings.{current, epoch_after}
-use Rattle.sq_model_state.specs.Sources.{AreSourced, IsSourced}
+use Rattle.sq_model.specs.Sources.{AreSourced, IsSourced}
 use Rattle.sq_replay.specs.Dues.{dues}
 use Rattle.sq_replay.specs.Headline.{AreAccepted, IsAhead, IsAccepted}
 use Rattle.sq_replay.specs.RunText.{Shelf, acts, begun_history, configs_of, first_history, named_by, named_from, named_in, run_script, stated, with_config, with_text}

@@ -15,14 +15,14 @@ use Rattle.sq_machine.specs.Readings.{latest}
 use Rattle.sq_machine.specs.AnswerReadings.{answers}
 use Rattle.sq_machine.specs.SeatPlaces.{seat_place}
 use Rattle.sq_machine.proofs.CheckLaws.{open_asked}
-use Rattle.sq_model_rows.specs.CheckRows.{Held, held_at, unasked}
-use Rattle.sq_model_laws.proofs.LegalLaws.{marked_entries}
-use Rattle.sq_model_state.specs.Answers.{close_answer, take_answer}
-use Rattle.sq_model_state.specs.Changes.{after_close, after_take}
-use Rattle.sq_model_state.specs.Promises.{StandsFor}
-use Rattle.sq_model_state.specs.States.{IsSame, State}
-use Rattle.sq_model_state.proofs.PromiseLaws.{answered_same, close_answered, take_answered}
-use Rattle.sq_model_state.proofs.StepStands.{found_held}
+use Rattle.sq_model.specs.CheckRows.{Held, held_at, unasked}
+use Rattle.sq_model.proofs.LegalLaws.{marked_entries}
+use Rattle.sq_model.specs.Answers.{close_answer, take_answer}
+use Rattle.sq_model.specs.Changes.{after_close, after_take}
+use Rattle.sq_model.specs.Promises.{StandsFor}
+use Rattle.sq_model.specs.States.{IsSame, State}
+use Rattle.sq_model.proofs.PromiseLaws.{answered_same, close_answered, take_answered}
+use Rattle.sq_model.proofs.StepStands.{found_held}
 use Rattle.sq_replay.specs.Riding.{AreBasins}
 use Rattle.sq_replay.specs.Runs.{Is, IsMade, IsRider, ScriptView, Rider}
 use Rattle.sq_replay.proofs.MakingLaws.{elsewhere_made, riders_closed, riders_taken}

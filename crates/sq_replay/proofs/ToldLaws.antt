@@ -19,15 +19,15 @@ use Rattle.sq_machine.specs.Marking.{marked}
 use Rattle.sq_machine.specs.Marks.{Past, entries}
 use Rattle.sq_machine.specs.Processes.{proc_count, starting}
 use Rattle.sq_machine.specs.Readings.{latest}
-use Rattle.sq_model_state.specs.Answers.{act_answer, ask_answer, close_answer, failed_answer, open_answer, reconfigure_answer, started_answer, take_answer}
-use Rattle.sq_model_state.specs.Promises.{StandsFor}
-use Rattle.sq_model_state.specs.Says.{class_in}
-use Rattle.sq_model_state.specs.States.{Stands, State}
-use Rattle.sq_model_state.proofs.ActNext.{act_next_is}
-use Rattle.sq_model_state.proofs.ConnStands.{ask_next, close_next, open_next, take_next}
-use Rattle.sq_model_state.proofs.PromiseLaws.{law_of, next_now}
-use Rattle.sq_model_state.proofs.ReconfigureStands.{reconfigure_next}
-use Rattle.sq_model_state.proofs.StartStands.{failed_next, started_next}
+use Rattle.sq_model.specs.Answers.{act_answer, ask_answer, close_answer, failed_answer, open_answer, reconfigure_answer, started_answer, take_answer}
+use Rattle.sq_model.specs.Promises.{StandsFor}
+use Rattle.sq_model.specs.Says.{class_in}
+use Rattle.sq_model.specs.States.{Stands, State}
+use Rattle.sq_model.proofs.ActNext.{act_next_is}
+use Rattle.sq_model.proofs.ConnStands.{ask_next, close_next, open_next, take_next}
+use Rattle.sq_model.proofs.PromiseLaws.{law_of, next_now}
+use Rattle.sq_model.proofs.ReconfigureStands.{reconfigure_next}
+use Rattle.sq_model.proofs.StartStands.{failed_next, started_next}
 use Rattle.sq_replay.specs.Making.{is_refused}
 
 -- of connections and checks

@@ -9,9 +9,9 @@ use Rattle.sq_machine.specs.declared.refusals.Refusal.{Refusal}
 use Rattle.sq_rules.specs.Configurations.{Configuration}
 use Rattle.sq_machine.specs.Entries.{History}
 use Rattle.sq_machine.specs.Readings.{latest}
-use Rattle.sq_model_rows.specs.CheckRows.{Held}
-use Rattle.sq_model_state.specs.Promises.{IsAnswered, StandsFor}
-use Rattle.sq_model_state.specs.States.{IsSame, State}
+use Rattle.sq_model.specs.CheckRows.{Held}
+use Rattle.sq_model.specs.Promises.{IsAnswered, StandsFor}
+use Rattle.sq_model.specs.States.{IsSame, State}
 use Rattle.sq_engine.specs.EngineViews.{EngineView, state_of}
 use Rattle.sq_engine.specs.Promised.{IsPromised}
 use Rattle.sq_replay.specs.Riding.{AreBasins}

@@ -19,10 +19,10 @@ use Rattle.sq_machine.specs.Numbered.{picks}
 use Rattle.sq_machine.specs.Processes.{lives_on, proc_count, stop_due}
 use Rattle.sq_machine.specs.Questions.{put_count}
 use Rattle.sq_machine.specs.Readings.{current, latest, offset_of}
-use Rattle.sq_model_rows.specs.CheckRows.{held_checks}
-use Rattle.sq_model_rows.specs.ClassRows.{ClassRow, class_part}
-use Rattle.sq_model_state.specs.Acts.{live_places_in}
-use Rattle.sq_model_state.specs.States.{State, machine_moment, place_of}
+use Rattle.sq_model.specs.CheckRows.{held_checks}
+use Rattle.sq_model.specs.ClassRows.{ClassRow, class_part}
+use Rattle.sq_model.specs.Acts.{live_places_in}
+use Rattle.sq_model.specs.States.{State, machine_moment, place_of}
 
 -- the state that a history comes to: each part is its reading
 abbrev pub state_at : List Configuration → Past → State

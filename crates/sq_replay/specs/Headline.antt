@@ -17,9 +17,9 @@ use Rattle.sq_machine.specs.Marks.{Marked, Past}
 use Rattle.sq_machine.specs.PoolHistories.{PoolKind, pool_history}
 use Rattle.sq_machine.specs.PoolReadings.{BucketSpot, PoolEntry, PoolHistory, tally_of}
 use Rattle.sq_machine.specs.Readings.{current}
-use Rattle.sq_model_laws.specs.Faithful.{IsFaithful, IsJudgedSo}
+use Rattle.sq_model.specs.Faithful.{IsFaithful, IsJudgedSo}
 use Rattle.sq_pools.specs.Flows.{GrantsWithin, Lives}
-use Rattle.sq_model_state.specs.Sources.{AreSourced}
+use Rattle.sq_model.specs.Sources.{AreSourced}
 use Rattle.sq_replay.specs.RunText.{Shelf, named_from}
 
 -- the text of a reconfiguration gives the configuration of the epoch that it begins

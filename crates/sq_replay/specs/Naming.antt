@@ -2,8 +2,8 @@
 use Rattle.std.specs.Prelude.{◌≡◌, ◌⊎◌, ℕ, List, None, Some, bytes_eq, position}
 use Rattle.sq_rules.specs.Classes.{Class}
 use Rattle.sq_rules.specs.Configurations.{Configuration}
-use Rattle.sq_model_state.specs.Says.{class_in}
-use Rattle.sq_model_state.specs.States.{State}
+use Rattle.sq_model.specs.Says.{class_in}
+use Rattle.sq_model.specs.States.{State}
 
 -- the class at a place of epoch e has this name
 pub record IsNamed (s : State) (e place : ℕ) (name : List ℕ) : Type 0 where

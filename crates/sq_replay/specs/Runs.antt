@@ -30,8 +30,8 @@ use Rattle.sq_machine.specs.declared.places.SeatPlace.{SeatPlace}
 use Rattle.sq_journal.specs.EntryText.{written}
 use Rattle.sq_pools.specs.Basins.{Basin}
 use Rattle.sq_pools.specs.Stands.{PoolsStand}
-use Rattle.sq_model_state.specs.Promises.{StandsFor}
-use Rattle.sq_model_state.specs.States.{State}
+use Rattle.sq_model.specs.Promises.{StandsFor}
+use Rattle.sq_model.specs.States.{State}
 use Rattle.sq_replay.specs.declared.ends.RunEnd.{RunEnd}
 use Rattle.sq_replay.specs.declared.ends.RunEnd.TheVariants as ends
 use Rattle.sq_replay.specs.Ends.{End, Done, Refused, Faulted, Reading, Writing, Lacking, end_of}

@@ -8,7 +8,7 @@ ghost use Rattle.sq_rules.specs.Configurations.{Configuration, IsConfiguration};
 ghost use Rattle.sq_machine.specs.Entries.{is_event};
 ghost use Rattle.sq_machine.specs.Epochs.{config_of};
 ghost use Rattle.sq_machine.specs.declared.entries.Event.TheVariants as event;
-ghost use Rattle.sq_model_laws.specs.Given.{EachOf};
+ghost use Rattle.sq_model.specs.Given.{EachOf};
 ghost use Rattle.sq_replay.specs.Entering.{Begins, IfMissed, IsBeginEnd, IsEmptyEnd, first_kind};
 ghost use Rattle.sq_replay.specs.Openings.{Added, ReachesEnd, RunOpened};
 ghost use Rattle.sq_replay.specs.RunText.{Shelf, begun_history, run_first, run_from, run_lines, run_script, run_stated, stated};

@@ -10,7 +10,7 @@ use crate::machines::ScriptMachine;
 use crate::stops::{Stop, stop_by};
 use sq_base::{Addr, CheckNo, ConnNo, Copying, Fields, Moment, ProcNo, Text, WantOfMemory};
 use sq_machine::{Event, Told, later};
-use sq_model_state::copy_outcome;
+use sq_model::copy_outcome;
 use sq_request::{BadRequest, make_request};
 use std::alloc::Global;
 

@@ -15,7 +15,7 @@ use sq_base::{CheckNo, EpochNo, Moment, ProcNo, Text, WantOfMemory};
 use sq_engine::Engine;
 use sq_farm::Got;
 use sq_machine::{Told, later};
-use sq_model_rows::Stepped;
+use sq_model::Stepped;
 use std::alloc::Global;
 
 // What a step of a check of this epoch said, as it is told.

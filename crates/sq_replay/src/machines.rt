@@ -4,7 +4,7 @@ ghost use Rattle.sq_rules.specs.Configurations.{Configuration, IsConfiguration};
 ghost use Rattle.sq_machine.specs.Entries.{is_row};
 ghost use Rattle.sq_machine.specs.Epochs.{config_of};
 ghost use Rattle.sq_machine.specs.declared.entries.Event.TheVariants as event;
-ghost use Rattle.sq_model_laws.specs.Given.{EachOf};
+ghost use Rattle.sq_model.specs.Given.{EachOf};
 ghost use Rattle.sq_engine.specs.EngineViews.{state_of};
 ghost use Rattle.sq_replay.specs.Dues.{dues_in};
 ghost use Rattle.sq_replay.specs.MachineViews.{machine_of};

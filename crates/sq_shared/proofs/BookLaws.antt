@@ -13,7 +13,7 @@ use Rattle.sq_calls.specs.declared.faults.DeskFault.TheVariants as fault
 use Rattle.sq_channel.specs.declared.replies.Got.{Got}
 use Rattle.sq_channel.specs.declared.replies.Got.TheVariants as got
 use Rattle.sq_checks.specs.Records.{Judged}
-use Rattle.sq_model_rows.specs.declared.stepping.Stepped.{Stepped}
+use Rattle.sq_model.specs.declared.stepping.Stepped.{Stepped}
 use Rattle.sq_machine.specs.declared.entries.Told.TheVariants as answer
 use Rattle.sq_rules.specs.Configurations.{Configuration}
 use Rattle.sq_machine.specs.declared.acts.Act.{Act}

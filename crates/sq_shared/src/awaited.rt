@@ -5,7 +5,7 @@ ghost use Rattle.sq_shared.specs.Waking.{after_line, after_step, is_awaited, wit
 use sq_base::{QuestionNo, WantOfMemory};
 use sq_calls::DeskFault;
 use sq_channel::Got;
-use sq_model_rows::Stepped;
+use sq_model::Stepped;
 use std::alloc::Global;
 
 /// The questions for which sessions were told to wait, each once, and whose answers have not come since.

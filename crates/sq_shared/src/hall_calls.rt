@@ -18,7 +18,7 @@ use sq_calls::{DeskCalls, DeskFault};
 use sq_channel::Got;
 use sq_checks::Record;
 use sq_machine::Act;
-use sq_model_rows::Stepped;
+use sq_model::Stepped;
 use sq_outside::Clock;
 use sq_urlmatch::Setup;
 use std::alloc::Global;

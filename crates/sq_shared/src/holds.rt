@@ -10,7 +10,7 @@ use crate::room::Room;
 use sq_base::{Addr, CheckNo, ConnNo, Request};
 use sq_calls::{DeskCalls, DeskFault};
 use sq_checks::Record;
-use sq_model_rows::Stepped;
+use sq_model::Stepped;
 use sq_outside::Clock;
 use std::alloc::Global;
 use std::sync::Wait;

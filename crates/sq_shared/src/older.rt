@@ -4,7 +4,7 @@ ghost use Rattle.sq_shared.specs.Waking.{may_ask};
 
 use sq_base::EpochNo;
 use sq_calls::{DeskFault, TellsJournal};
-use sq_model_rows::Stepped;
+use sq_model::Stepped;
 
 /// Whether a step may have put a question, for a check or to refresh a kept answer.
 pub(crate) fn may_ask(gave: &Result<Stepped, DeskFault>) -> bool

@@ -10,7 +10,7 @@ use crate::room::Room;
 use sq_base::QuestionNo;
 use sq_calls::{DeskCalls, DeskFault};
 use sq_channel::Got;
-use sq_model_rows::Stepped;
+use sq_model::Stepped;
 use std::sync::Wait;
 
 /// How often an act may have become due, or a keeper have ended, so far.

@@ -16,7 +16,7 @@ use Rattle.sq_machine.specs.Events.{has_target, is_begin}
 use Rattle.sq_machine.specs.Readings.{current, latest}
 use Rattle.sq_journal.specs.EntryText.{written}
 use Rattle.sq_journal.specs.Journals.{journal_text, numbered_lines, version_line}
-use Rattle.sq_model_state.proofs.PromiseLaws.{legal_more}
+use Rattle.sq_model.proofs.PromiseLaws.{legal_more}
 use Rattle.sq_replay.specs.Headline.{AreAccepted, IsAccepted, IsTrue}
 use Rattle.sq_replay.proofs.HeadlineLaws.{history_true}
 use Rattle.sq_verify.specs.declared.findings.Finding.{Finding}

@@ -12,7 +12,7 @@ use Rattle.sq_machine.specs.Entries.{History, Noted, entry_at}
 use Rattle.sq_machine.specs.Epochs.{config_of}
 use Rattle.sq_machine.specs.Events.{is_begin}
 use Rattle.sq_machine.specs.Readings.{current}
-use Rattle.sq_model_laws.specs.Given.{EachOf}
+use Rattle.sq_model.specs.Given.{EachOf}
 use Rattle.sq_replay.specs.RunText.{first_history}
 use Rattle.sq_replay.specs.Runs.{Is, ScriptView}
 use Rattle.sq_verify.specs.declared.findings.Finding.{Finding}

@@ -10,7 +10,7 @@ use Rattle.sq_rules.specs.Configurations.{Configuration, IsConfiguration}
 use Rattle.sq_machine.specs.Entries.{History, Noted, entry_at}
 use Rattle.sq_machine.specs.Events.{is_begin}
 use Rattle.sq_machine.specs.Readings.{current}
-use Rattle.sq_model_laws.specs.Given.{EachOf}
+use Rattle.sq_model.specs.Given.{EachOf}
 use Rattle.sq_replay.specs.Headline.{IsAccepted}
 use Rattle.sq_replay.specs.RunText.{with_config}
 use Rattle.sq_drafts.proofs.TextLaws.{gives_configuration}

@@ -16,7 +16,7 @@ use Rattle.sq_machine.specs.Machine.{next}
 use Rattle.sq_machine.specs.Epochs.{config_of}
 use Rattle.sq_machine.specs.Marking.{marked}
 use Rattle.sq_machine.specs.Readings.{current}
-use Rattle.sq_model_laws.specs.Given.{EachOf}
+use Rattle.sq_model.specs.Given.{EachOf}
 use Rattle.sq_journal.specs.Journals.{epoch_at}
 use Rattle.sq_journal_writers.specs.Sinks.{epoch_behind}
 use Rattle.sq_conf.specs.declared.faults.ConfFault.{ConfFault}

@@ -5,7 +5,7 @@ ghost use Rattle.sq_rules.specs.Configurations.{Configuration, IsConfiguration};
 ghost use Rattle.sq_machine.specs.Entries.{is_event, is_row};
 ghost use Rattle.sq_machine.specs.Events.{begins_epoch};
 ghost use Rattle.sq_machine.specs.Epochs.{config_of};
-ghost use Rattle.sq_model_laws.specs.Given.{EachOf};
+ghost use Rattle.sq_model.specs.Given.{EachOf};
 ghost use Rattle.sq_replay.specs.Making.{IsActing, IsMaking, IsReconfiguring};
 ghost use Rattle.sq_replay.specs.RunText.{first_history};
 ghost use Rattle.sq_replay.specs.Runs.{Is, ScriptView};

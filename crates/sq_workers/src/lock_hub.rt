@@ -7,7 +7,7 @@ use sq_base::{Addr, CheckNo, ConnNo, EpochNo, Moment, QuestionNo, Request, Text}
 use sq_calls::{DeskCalls, DeskFault};
 use sq_checks::Record;
 use sq_conn_policy::{Hub, HubFault};
-use sq_model_rows::Stepped;
+use sq_model::Stepped;
 use sq_outside::{Clock, raised, raised_by};
 use sq_pools::{ChooseFault, Seat, TagSeat};
 use sq_rewrite::{RewriteFault, Rewriting};

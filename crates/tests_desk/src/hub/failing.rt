@@ -4,7 +4,7 @@ ghost use Rattle.std.specs.Prelude.{◌≡◌, ◌+◌, true, false, if◌then�
 use sq_base::{Addr, CheckNo, ConnNo, EpochNo, QuestionNo, Request, Text};
 use sq_checks::Record;
 use sq_conn_policy::{Hub, HubFault};
-use sq_model_rows::Stepped;
+use sq_model::Stepped;
 use sq_pools::{ChooseFault, Seat, TagSeat};
 use sq_rewrite::{RewriteFault, Rewriting};
 use sq_rules::Config;

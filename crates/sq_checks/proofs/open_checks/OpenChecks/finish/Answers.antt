@@ -2,7 +2,7 @@ use Rattle.std.proofs.Common.{◌≡◌, ◌∙◌, ap, sym, true, Some}
 use Rattle.std.specs.BTreeMap.{is_at}
 use Rattle.std.specs.Map.{set_value}
 use Rattle.std.specs.Ordering.{nat_cmp}
-use Rattle.sq_model_rows.specs.CheckRows.{stepped}
+use Rattle.sq_model.specs.CheckRows.{stepped}
 use Rattle.sq_machine.specs.StepRule.{says_done}
 use Rattle.sq_rules.specs.declared.values.Value.TheVariants as value
 use Rattle.sq_checks.specs.OpenChecks.{HasCome, finished, rows_of}

@@ -5,7 +5,7 @@ use Rattle.std.specs.Ordering.{nat_cmp}
 use Rattle.sq_base.specs.Distinct.{has_answer}
 use Rattle.sq_rules.specs.Keys.{key_text}
 use Rattle.sq_machine.specs.StepRule.{class_of_acl}
-use Rattle.sq_model_rows.specs.CheckRows.{stepped}
+use Rattle.sq_model.specs.CheckRows.{stepped}
 use Rattle.sq_checks.specs.Givens.{looks_over}
 use Rattle.sq_checks.specs.OpenChecks.{noted, rows_of, says_of}
 use Rattle.sq_checks.specs.Stages.{is_idle}

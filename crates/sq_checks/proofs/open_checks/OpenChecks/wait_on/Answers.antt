@@ -2,7 +2,7 @@ use Rattle.std.proofs.Common.{◌≡◌, ◌∙◌, ap, sym, Some}
 use Rattle.std.specs.BTreeMap.{is_at}
 use Rattle.std.specs.Map.{set_value}
 use Rattle.std.specs.Ordering.{nat_cmp}
-use Rattle.sq_model_rows.specs.CheckRows.{stepped}
+use Rattle.sq_model.specs.CheckRows.{stepped}
 use Rattle.sq_checks.specs.OpenChecks.{rows_of, says_waits, waited}
 use Rattle.sq_checks.specs.Stages.{question_in}
 use Rattle.sq_checks.specs.Tables.{value_at}

@@ -2,7 +2,7 @@ use Rattle.std.proofs.Common.{◌≡◌, ◌∙◌, ◌+◌, ◌==◌, not, List
 use Rattle.sq_lookup.specs.Waits.{is_free}
 use Rattle.sq_machine.specs.Farms.{Stock, places}
 use Rattle.sq_machine.specs.OpenLookups.{LookupRow, all_below, is_open_lookup}
-use Rattle.sq_model_rows.specs.ClassRows.{ClassRow}
+use Rattle.sq_model.specs.ClassRows.{ClassRow}
 use Rattle.sq_class.proofs.HoldLaws.{counted_next, itself, not_open, undone, undone_waiting}
 use Rattle.sq_class.proofs.parts.Part.put.Goals as goal
 

@@ -1,6 +1,6 @@
 use Rattle.std.proofs.Common.{◌≡◌, ◌∙◌, max, None, Some, sym, subst}
-use Rattle.sq_model_state.specs.Acts.{due_in}
-use Rattle.sq_model_state.specs.States.{IsSame}
+use Rattle.sq_model.specs.Acts.{due_in}
+use Rattle.sq_model.specs.States.{IsSame}
 use Rattle.sq_engine.specs.Acting.{IsActPromised, after_act, due_now}
 use Rattle.sq_engine.specs.EngineViews.{EngineView, state_of}
 use Rattle.sq_engine.proofs.ActLaws.{act_left, act_promised, due_read, left_same}

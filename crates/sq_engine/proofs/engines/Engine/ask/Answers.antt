@@ -1,8 +1,8 @@
 use Rattle.std.proofs.Common.{max}
 use Rattle.sq_machine.specs.declared.entries.Told.TheVariants as told
-use Rattle.sq_model_state.specs.Answers.{asked_in}
-use Rattle.sq_model_state.specs.Changes.{after_ask}
-use Rattle.sq_model_state.specs.States.{IsSame}
+use Rattle.sq_model.specs.Answers.{asked_in}
+use Rattle.sq_model.specs.Changes.{after_ask}
+use Rattle.sq_model.specs.States.{IsSame}
 use Rattle.sq_engine.specs.EngineViews.{state_of}
 use Rattle.sq_engine.proofs.PromiseLaws.{ask_promised, on_ok}
 use Rattle.sq_engine.proofs.engines.Engine.ask.Goals as goal

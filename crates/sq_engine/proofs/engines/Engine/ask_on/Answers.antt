@@ -4,9 +4,9 @@ use Rattle.sq_rules.specs.declared.sights.Sight.{Sight}
 use Rattle.sq_checks.specs.Conns.{check_in, client_in}
 use Rattle.sq_checks.specs.OpenChecks.{all_before, begun_parts, row, rows_of}
 use Rattle.sq_epochs.specs.LiveEpochs.{after_began, checks_at}
-use Rattle.sq_model_state.specs.Answers.{asked_in}
-use Rattle.sq_model_state.specs.Changes.{after_ask}
-use Rattle.sq_model_state.specs.States.{IsSame}
+use Rattle.sq_model.specs.Answers.{asked_in}
+use Rattle.sq_model.specs.Changes.{after_ask}
+use Rattle.sq_model.specs.States.{IsSame}
 use Rattle.sq_engine.specs.Engines.{IsEngine}
 use Rattle.sq_engine.specs.EngineViews.{EngineView, state_of}
 use Rattle.sq_engine.proofs.AskLaws.{Begun, began_room, begun_engine, begun_same}

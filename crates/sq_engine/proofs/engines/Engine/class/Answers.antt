@@ -1,5 +1,5 @@
 use Rattle.std.proofs.Common.{◌∙◌, ap}
-use Rattle.sq_model_state.specs.Says.{class_in}
+use Rattle.sq_model.specs.Says.{class_in}
 use Rattle.sq_engine.specs.EngineViews.{EngineView, state_of}
 use Rattle.sq_engine.proofs.ReaderLaws.{class_read}
 use Rattle.sq_engine.proofs.engines.Engine.class.Goals as goal

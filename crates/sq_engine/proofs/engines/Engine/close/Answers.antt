@@ -1,10 +1,10 @@
 use Rattle.std.proofs.Common.{◌≡◌, ◌∙◌, max, true, false, Err, Ok, is_none, ap, sym, subst}
 use Rattle.sq_machine.specs.declared.refusals.Refusal.TheVariants as refusal
-use Rattle.sq_model_rows.specs.CheckRows.{without_conn}
+use Rattle.sq_model.specs.CheckRows.{without_conn}
 use Rattle.sq_checks.specs.Conns.{client_in}
 use Rattle.sq_checks.specs.OpenChecks.{rows_of}
-use Rattle.sq_model_state.specs.Changes.{after_close, with_checks}
-use Rattle.sq_model_state.specs.States.{IsSame}
+use Rattle.sq_model.specs.Changes.{after_close, with_checks}
+use Rattle.sq_model.specs.States.{IsSame}
 use Rattle.sq_engine.specs.EngineViews.{EngineView, state_of}
 use Rattle.sq_engine.proofs.CloseLaws.{Closed, close_fine, close_unknown, closed_same, none_by}
 use Rattle.sq_engine.proofs.PromiseLaws.{close_promised}

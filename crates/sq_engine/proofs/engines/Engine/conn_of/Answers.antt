@@ -1,6 +1,6 @@
 use Rattle.std.proofs.Common.{◌≡◌, ◌∙◌, None, Some, ap, sym, subst, rules}
 use Rattle.std.specs.Option.{option_map}
-use Rattle.sq_model_rows.specs.CheckRows.{Held, held_at}
+use Rattle.sq_model.specs.CheckRows.{Held, held_at}
 use Rattle.sq_checks.specs.OpenChecks.{row}
 use Rattle.sq_checks.specs.Tables.{value_at}
 use Rattle.sq_engine.specs.EngineViews.{EngineView, state_of}

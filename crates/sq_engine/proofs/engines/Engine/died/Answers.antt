@@ -4,8 +4,8 @@ use Rattle.sq_base.specs.declared.helpers.Cause.TheVariants as cause
 use Rattle.sq_machine.specs.DueActs.{ClassId}
 use Rattle.sq_machine.specs.declared.refusals.Refusal.TheVariants as refusal
 use Rattle.sq_epochs.specs.EpochStates.{home_at}
-use Rattle.sq_model_state.specs.Changes.{after_end_at}
-use Rattle.sq_model_state.specs.States.{IsSame}
+use Rattle.sq_model.specs.Changes.{after_end_at}
+use Rattle.sq_model.specs.States.{IsSame}
 use Rattle.sq_engine.specs.EngineViews.{state_of}
 use Rattle.sq_engine.proofs.PromiseLaws.{died_promised}
 use Rattle.sq_engine.proofs.StartedLaws.{died_fine, died_unknown}

@@ -5,8 +5,8 @@ use Rattle.sq_checks.proofs.AloneLaws.{conn_numbered}
 use Rattle.sq_checks.specs.Conns.{check_in}
 use Rattle.sq_checks.specs.OpenChecks.{rows_of}
 use Rattle.sq_epochs.specs.EpochProcs.{AreHomed}
-use Rattle.sq_model_state.specs.Changes.{with_checks}
-use Rattle.sq_model_state.specs.States.{IsSame}
+use Rattle.sq_model.specs.Changes.{with_checks}
+use Rattle.sq_model.specs.States.{IsSame}
 use Rattle.sq_engine.specs.Engines.{IsEngine, held_number}
 use Rattle.sq_engine.specs.EngineViews.{state_of}
 use Rattle.sq_engine.proofs.CloseLaws.{dropped_none}

@@ -1,5 +1,5 @@
 use Rattle.std.proofs.Common.{◌≡◌, subst}
-use Rattle.sq_model_state.specs.Acts.{due_in}
+use Rattle.sq_model.specs.Acts.{due_in}
 use Rattle.sq_engine.specs.Acting.{due_now}
 use Rattle.sq_engine.specs.EngineViews.{EngineView, state_of}
 use Rattle.sq_engine.proofs.ActLaws.{due_read}

@@ -1,6 +1,6 @@
 use Rattle.std.proofs.Common.{is_some, ap, subst, sym}
-use Rattle.sq_model_state.specs.Changes.{after_end_at}
-use Rattle.sq_model_state.specs.States.{IsSame}
+use Rattle.sq_model.specs.Changes.{after_end_at}
+use Rattle.sq_model.specs.States.{IsSame}
 use Rattle.sq_engine.specs.EngineViews.{EngineView, state_of}
 use Rattle.sq_engine.proofs.EndingLaws.{end_engine, end_listed, end_same, end_there}
 use Rattle.sq_engine.specs.Begun.{AreKept}

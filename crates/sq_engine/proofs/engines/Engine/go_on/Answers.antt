@@ -11,8 +11,8 @@ use Rattle.sq_checks.specs.OpenChecks.{HasCome, comes_to, is_need}
 use Rattle.sq_checks.specs.Stages.{is_idle, need_in}
 use Rattle.sq_checks.specs.Tables.{value_at}
 use Rattle.sq_epochs.specs.EpochStates.{part_at}
-use Rattle.sq_model_state.specs.Changes.{after_step_of}
-use Rattle.sq_model_state.specs.States.{IsSame}
+use Rattle.sq_model.specs.Changes.{after_step_of}
+use Rattle.sq_model.specs.States.{IsSame}
 use Rattle.sq_engine.specs.Engines.{IsEngine}
 use Rattle.sq_engine.specs.EngineViews.{state_of}
 use Rattle.sq_engine.specs.Stepping.{epoch_of, step_now, stepped_told}

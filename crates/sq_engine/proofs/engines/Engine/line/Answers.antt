@@ -5,9 +5,9 @@ use Rattle.sq_machine.specs.declared.entries.Told.TheVariants as told
 use Rattle.sq_machine.specs.declared.refusals.Refusal.TheVariants as refusal
 use Rattle.sq_machine.specs.Next.{gives}
 use Rattle.sq_epochs.specs.EpochStates.{home_at, part_at}
-use Rattle.sq_model_state.specs.Answers.{line_answer}
-use Rattle.sq_model_state.specs.Changes.{after_end_at}
-use Rattle.sq_model_state.specs.States.{IsSame}
+use Rattle.sq_model.specs.Answers.{line_answer}
+use Rattle.sq_model.specs.Changes.{after_end_at}
+use Rattle.sq_model.specs.States.{IsSame}
 use Rattle.sq_engine.specs.EngineViews.{EngineView, state_of}
 use Rattle.sq_engine.specs.Lines.{IsRead, IsReplied}
 use Rattle.sq_engine.proofs.LineLaws.{at_home, got_opened, home_alive, home_there, line_got, line_read, line_unknown}

@@ -3,8 +3,8 @@ use Rattle.sq_machine.specs.Limits.{conn_limit}
 use Rattle.sq_machine.specs.declared.refusals.Refusal.TheVariants as refusal
 use Rattle.sq_rules.specs.declared.sights.Peer.{Peer}
 use Rattle.sq_checks.specs.Conns.{client_in}
-use Rattle.sq_model_state.specs.Changes.{after_open}
-use Rattle.sq_model_state.specs.States.{IsSame}
+use Rattle.sq_model.specs.Changes.{after_open}
+use Rattle.sq_model.specs.States.{IsSame}
 use Rattle.sq_engine.specs.EngineViews.{EngineView, state_of}
 use Rattle.sq_engine.proofs.OpenLaws.{open_fine, open_full, open_in_use, opened_same}
 use Rattle.sq_engine.proofs.PromiseLaws.{open_promised}

@@ -4,9 +4,9 @@ use Rattle.sq_machine.specs.Next.{gives, refuses}
 use Rattle.sq_machine.specs.declared.entries.Told.TheVariants as told
 use Rattle.sq_machine.specs.declared.refusals.Refusal.TheVariants as refusal
 use Rattle.sq_epochs.specs.Reconfigured.{after_reconfigured}
-use Rattle.sq_model_state.specs.Answers.{reconfigure_answer}
-use Rattle.sq_model_state.specs.Changes as changes
-use Rattle.sq_model_state.specs.States.{IsSame}
+use Rattle.sq_model.specs.Answers.{reconfigure_answer}
+use Rattle.sq_model.specs.Changes as changes
+use Rattle.sq_model.specs.States.{IsSame}
 use Rattle.sq_engine.specs.Engines.{IsEngine}
 use Rattle.sq_engine.specs.EngineViews.{EngineView, state_of}
 use Rattle.sq_engine.proofs.ReconfigureLaws.{busy_read, reconfigure_busy, reconfigure_fine, reconfigure_promised, reconfigure_spent, reconfigured_engine, reconfigured_same}

@@ -3,8 +3,8 @@ use Rattle.sq_checks.specs.Conns.{check_in, client_in}
 use Rattle.sq_checks.specs.Counts.{tally}
 use Rattle.sq_checks.specs.Tables.{value_at}
 use Rattle.sq_epochs.specs.LiveEpochs.{after_ended, checks_at}
-use Rattle.sq_model_state.specs.Changes.{after_take}
-use Rattle.sq_model_state.specs.States.{IsSame}
+use Rattle.sq_model.specs.Changes.{after_take}
+use Rattle.sq_model.specs.States.{IsSame}
 use Rattle.sq_engine.specs.EngineViews.{EngineView, state_of}
 use Rattle.sq_engine.proofs.LeavingLaws.{LeftBy}
 use Rattle.sq_engine.proofs.OverLaws.{IsOver, over_engine, over_same}

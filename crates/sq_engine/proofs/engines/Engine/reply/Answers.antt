@@ -5,7 +5,7 @@ use Rattle.sq_machine.specs.Living.{slots_in}
 use Rattle.sq_machine.specs.OpenLookups.{key_of}
 use Rattle.sq_class.specs.Parts.{PartState}
 use Rattle.sq_epochs.specs.EpochStates.{part_at}
-use Rattle.sq_model_state.specs.States.{IsSame}
+use Rattle.sq_model.specs.States.{IsSame}
 use Rattle.sq_engine.specs.EngineViews.{EngineView, state_of}
 use Rattle.sq_engine.specs.Lines.{IsReplied}
 use Rattle.sq_engine.proofs.AskingLaws.{class_there}

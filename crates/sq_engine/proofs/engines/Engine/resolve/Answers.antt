@@ -2,8 +2,8 @@ use Rattle.std.proofs.Common.{◌≡◌, ◌∙◌, ◌+◌, suc, Err, ap, subst
 use Rattle.sq_machine.specs.Machine.{step_next}
 use Rattle.sq_machine.specs.Next.{gives, refuses}
 use Rattle.sq_machine.specs.declared.refusals.Refusal.TheVariants as refusal
-use Rattle.sq_model_state.specs.Changes.{after_step_of}
-use Rattle.sq_model_state.specs.States.{IsSame}
+use Rattle.sq_model.specs.Changes.{after_step_of}
+use Rattle.sq_model.specs.States.{IsSame}
 use Rattle.sq_engine.specs.EngineViews.{EngineView, state_of}
 use Rattle.sq_engine.specs.Stepping.{stepped_told}
 use Rattle.sq_engine.proofs.AskingLaws.{asking, class_there, free_asking, said_noted}

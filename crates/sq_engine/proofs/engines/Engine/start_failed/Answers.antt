@@ -1,13 +1,13 @@
 use Rattle.std.proofs.Common.{◌≡◌, max, true, false, Ok, Err, ap, sym, subst, ◌∙◌}
 use Rattle.sq_epochs.specs.EpochChanges.{HasFailed}
-use Rattle.sq_model_state.specs.Changes.{after_failed_at}
-use Rattle.sq_model_state.specs.States.{IsSame}
+use Rattle.sq_model.specs.Changes.{after_failed_at}
+use Rattle.sq_model.specs.States.{IsSame}
 use Rattle.sq_engine.specs.EngineViews.{EngineView, state_of}
 use Rattle.sq_engine.proofs.HandingLaws.{there_after}
 use Rattle.sq_engine.proofs.LosingLaws.{failed_engine, failed_listed, failed_same}
 use Rattle.sq_machine.specs.DueActs.{ClassId}
 use Rattle.sq_machine.specs.declared.refusals.Refusal.TheVariants as refusal
-use Rattle.sq_model_state.specs.Answers.{has_start_in}
+use Rattle.sq_model.specs.Answers.{has_start_in}
 use Rattle.sq_engine.proofs.PromiseLaws.{failed_promised}
 use Rattle.sq_engine.proofs.StartedLaws.{failed_fine, failed_none, start_read}
 use Rattle.sq_engine.specs.Begun.{AreKept}

@@ -4,9 +4,9 @@ use Rattle.sq_machine.specs.Next.{gives, refuses}
 use Rattle.sq_machine.specs.declared.entries.Told.TheVariants as told
 use Rattle.sq_machine.specs.declared.refusals.Refusal.TheVariants as refusal
 use Rattle.sq_epochs.specs.EpochProcs.{has_start}
-use Rattle.sq_model_state.specs.Answers.{started_answer}
-use Rattle.sq_model_state.specs.Changes.{after_started_at}
-use Rattle.sq_model_state.specs.States.{IsSame}
+use Rattle.sq_model.specs.Answers.{started_answer}
+use Rattle.sq_model.specs.Changes.{after_started_at}
+use Rattle.sq_model.specs.States.{IsSame}
 use Rattle.sq_engine.specs.EngineViews.{EngineView, state_of}
 use Rattle.sq_engine.proofs.PromiseLaws.{started_promised}
 use Rattle.sq_engine.proofs.StartedLaws.{is_true, start_read, started_engine, started_fine, started_none, started_same, started_spent}

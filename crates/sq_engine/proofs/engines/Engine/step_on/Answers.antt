@@ -4,8 +4,8 @@ use Rattle.sq_machine.specs.Next.{gives}
 use Rattle.sq_machine.specs.declared.entries.Told.TheVariants as told
 use Rattle.sq_checks.specs.Stages.{need_in, question_in}
 use Rattle.sq_checks.specs.Tables.{value_at}
-use Rattle.sq_model_state.specs.Changes.{after_step_of}
-use Rattle.sq_model_state.specs.States.{IsSame}
+use Rattle.sq_model.specs.Changes.{after_step_of}
+use Rattle.sq_model.specs.States.{IsSame}
 use Rattle.sq_engine.specs.EngineViews.{state_of}
 use Rattle.sq_engine.specs.Stepping.{epoch_of, stepped_told}
 use Rattle.sq_checks.specs.OpenChecks.{says_waits}

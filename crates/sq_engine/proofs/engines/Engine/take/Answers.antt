@@ -6,8 +6,8 @@ use Rattle.sq_checks.specs.Records.{Judged, judged_of}
 use Rattle.sq_checks.specs.Stages.{decided_in}
 use Rattle.sq_checks.specs.Tables.{value_at}
 use Rattle.sq_engine.specs.Engines.{IsEngine}
-use Rattle.sq_model_state.specs.Changes.{after_take}
-use Rattle.sq_model_state.specs.States.{IsSame}
+use Rattle.sq_model.specs.Changes.{after_take}
+use Rattle.sq_model.specs.States.{IsSame}
 use Rattle.sq_engine.specs.EngineViews.{EngineView, state_of}
 use Rattle.sq_engine.proofs.PromiseLaws.{take_promised}
 use Rattle.sq_engine.proofs.TakeLaws.{judged_is, take_early, take_told, take_unknown, taken_at}

@@ -4,7 +4,7 @@ use Rattle.std.specs.Arc.{arc_value}
 use Rattle.sq_epochs.specs.EpochChanges.{HasFailed, HasNoStart}
 use Rattle.sq_epochs.specs.EpochStates.{EpochState, with_part}
 use Rattle.sq_machine.specs.Farms.{failed, is_last_start}
-use Rattle.sq_model_rows.specs.ClassRows.{after_failed, is_waiting}
+use Rattle.sq_model.specs.ClassRows.{after_failed, is_waiting}
 use Rattle.sq_class.specs.Losing.{handed_out, lost_cause}
 use Rattle.sq_epochs.proofs.OutcomeLaws.{both_err, err_epoch, fail_limit, ok_epoch, three_ok}
 use Rattle.sq_epochs.specs.EpochProcs.{SameLiving}

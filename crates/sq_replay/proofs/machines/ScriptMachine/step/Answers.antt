@@ -5,7 +5,7 @@ use Rattle.sq_engine.specs.EngineViews.{state_of}
 use Rattle.sq_replay.specs.MachineViews.{MachineView, machine_of}
 use Rattle.sq_replay.specs.Making.{IsMaking}
 use Rattle.sq_replay.proofs.ViewLaws.{left_state, quiet_view, stops_view}
-use Rattle.sq_model_rows.specs.declared.stepping.Stepped.{Stepped}
+use Rattle.sq_model.specs.declared.stepping.Stepped.{Stepped}
 use Rattle.sq_engine.specs.Stepping.{epoch_of, stepped_told}
 use Rattle.sq_replay.proofs.NamingLaws.{stepped_same}
 use Rattle.sq_replay.proofs.machines.ScriptMachine.step.Goals as goal

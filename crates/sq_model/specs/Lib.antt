@@ -1,0 +1,19 @@
+-- Definitions that the contracts and the laws cite.
+pub mod CheckRows
+pub mod ClassRows
+pub mod StepRows
+pub mod Agreement
+pub mod MarkedEntries
+pub mod ClassChanges
+pub mod Carried
+pub mod Given
+pub mod Waits
+pub mod Walked
+pub mod Faithful
+pub mod States
+pub mod Says
+pub mod Acts
+pub mod Changes
+pub mod Answers
+pub mod Sources
+pub mod Promises

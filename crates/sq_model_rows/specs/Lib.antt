@@ -1,5 +1,0 @@
--- Definitions that the contracts cite.
-pub mod CheckRows
-pub mod ClassRows
-pub mod StepRows
-pub mod Agreement
