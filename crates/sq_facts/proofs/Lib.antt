@@ -1,1 +1,3 @@
+mod DayLaws
 mod FactLaws
+mod SchemeLaws

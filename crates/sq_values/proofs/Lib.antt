@@ -1,2 +1,0 @@
-mod DayLaws
-mod SchemeLaws
