@@ -6,6 +6,8 @@ mod FindLaws
 pub mod HomeLaws
 mod OutcomeLaws
 mod RisingRows
+mod SetLaws
+mod WordLaws
 pub mod LiveLaws
 mod AlikeLaws
 mod InheritLaws

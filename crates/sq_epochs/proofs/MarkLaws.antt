@@ -7,8 +7,8 @@ use Rattle.std.specs.declared.option.Option.{Option}
 use Rattle.std.proofs.lemmas.List.{length-set}
 use Rattle.std.proofs.lemmas.Option.{slice_get_within}
 use Rattle.std.proofs.Math.Seq.{map-set_same}
-use Rattle.sq_bit_set.specs.Sets.{IsLeast, IsSetOf, is_in}
-use Rattle.sq_bit_set.proofs.SetLaws.{set_marked, set_same}
+use Rattle.sq_epochs.specs.Sets.{IsLeast, IsSetOf, is_in}
+use Rattle.sq_epochs.proofs.SetLaws.{set_marked, set_same}
 use Rattle.sq_rules.specs.Classes.{Class}
 use Rattle.sq_machine.specs.Farms.{send_of, start_due}
 use Rattle.sq_machine.specs.KeptLists.{CachedReplies}

@@ -1,6 +1,6 @@
 -- Which classes of an epoch owe an act, as sets of their places.
 use Rattle.std.specs.Prelude.{ℕ, ◌≤◌, List, length}
-use Rattle.sq_bit_set.specs.Sets.{IsSetAt, IsSetOf}
+use Rattle.sq_epochs.specs.Sets.{IsSetAt, IsSetOf}
 use Rattle.sq_rules.specs.Classes.{Class}
 use Rattle.sq_rules.specs.Limits.{most_classes}
 use Rattle.sq_class.specs.Parts.{PartState}

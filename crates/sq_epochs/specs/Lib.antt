@@ -7,3 +7,4 @@ pub mod EpochStates
 pub mod HomeStates
 pub mod LiveEpochs
 pub mod Reconfigured
+pub mod Sets

@@ -1,10 +1,10 @@
 //! `Due`: which classes of an epoch owe a send, and which a start.
 ghost use Rattle.std.specs.Prelude.{◌≡◌, ◌<◌, ◌≤◌, ℕ, false, length, IfNone, IfSome};
-ghost use Rattle.sq_bit_set.specs.Sets.{IsLeast, is_in};
+ghost use Rattle.sq_epochs.specs.Sets.{IsLeast, is_in};
 ghost use Rattle.sq_rules.specs.Limits.{most_classes};
 ghost use Rattle.sq_epochs.specs.DueSets.{IsDueOf, IsMarked};
 
-use sq_bit_set::BitSet;
+use crate::bit_set::BitSet;
 use sq_class::Part;
 use std::marker::Model;
 

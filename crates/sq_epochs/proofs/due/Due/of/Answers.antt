@@ -1,5 +1,5 @@
 use Rattle.std.proofs.Common.{add-one, sym, subst, take}
-use Rattle.sq_bit_set.proofs.SetLaws.{set_pushed}
+use Rattle.sq_epochs.proofs.SetLaws.{set_pushed}
 use Rattle.sq_epochs.specs.DueSets.{IsDueOf}
 use Rattle.sq_epochs.specs.DueStates.{owes_send, owes_start}
 use Rattle.sq_epochs.proofs.due.Due.of.Goals as goal

@@ -2,7 +2,7 @@
 use Rattle.std.proofs.Common.{◌≡◌, ℕ, zero, suc, ◌<◌, List, [], ◌∷◌, map, take, set, length, get_or, Bool, true, false, if◌then◌else◌, ◌==◌, refl, sym, arith, ap, ◌∙◌}
 use Rattle.std.specs.List.{slice_get}
 use Rattle.std.specs.Option.{option_map_or}
-use Rattle.sq_bit_set.specs.Sets.{IsSetAt, IsSetOf, is_in}
+use Rattle.sq_epochs.specs.Sets.{IsSetAt, IsSetOf, is_in}
 
 same : (a b : ℕ) → (a == b) ≡ true → a ≡ b
 same a b t = grind (arith, t)

@@ -1,6 +1,6 @@
 //! `BitSet`: a set of places below 128.
 ghost use Rattle.std.specs.Prelude.{◌≡◌, ◌<◌, ℕ, false, IfNone, IfSome};
-ghost use Rattle.sq_bit_set.specs.Sets.{IsLeast, IsSetAt, is_in};
+ghost use Rattle.sq_epochs.specs.Sets.{IsLeast, IsSetAt, is_in};
 
 use std::marker::Model;
 

@@ -4,7 +4,7 @@ use mir.Syntax.{w128}
 use Rattle.std.proofs.lemmas.Bool.{cases_lt}
 use Rattle.std.specs.Int.{bit_at, trailing_zeros}
 use Rattle.std.proofs.lemmas.Nat.Bits.{bit_at-trailing_zeros, bit_at_above, bit_at_and, bit_at_clear_other, bit_at_clear_same, bit_at_set_other, bit_at_set_same}
-use Rattle.sq_bit_set.specs.Sets.{IsLeast, is_in}
+use Rattle.sq_epochs.specs.Sets.{IsLeast, is_in}
 
 same : (a b : ℕ) → (a == b) ≡ true → a ≡ b
 same a b t = grind (arith, t)

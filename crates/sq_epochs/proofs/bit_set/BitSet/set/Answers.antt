@@ -1,7 +1,7 @@
 use Rattle.std.proofs.Common.{ap, sym, ◌∙◌, arith, if◌then◌else◌, ◌==◌}
-use Rattle.sq_bit_set.specs.Sets.{is_in}
-use Rattle.sq_bit_set.proofs.WordLaws.{put_in, taken_out}
-use Rattle.sq_bit_set.proofs.bit_set.BitSet.set.Goals as goal
+use Rattle.sq_epochs.specs.Sets.{is_in}
+use Rattle.sq_epochs.proofs.WordLaws.{put_in, taken_out}
+use Rattle.sq_epochs.proofs.bit_set.BitSet.set.Goals as goal
 
 pub returns-then-within : goal.returns-then-within
 returns-then-within c = λ p.
