@@ -47,7 +47,7 @@ use Rattle.sq_engine.specs.Promised.{IsBegun}
 use Rattle.sq_engine.specs.Stepping.{after_step_held, after_step_now, epoch_of, step_now, stepped_told}
 use Rattle.sq_engine.specs.EngineViews.{EngineView, state_of}
 use Rattle.sq_engine.proofs.PromiseLaws.{ask_promised, close_promised, died_promised, failed_promised, open_promised, started_promised, step_promised, take_promised}
-use Rattle.sq_journal_writers.specs.Noting.{with_entry}
+use Rattle.sq_journal.specs.Noting.{with_entry}
 use Rattle.sq_calls.specs.Legality.{Beginning, IsLegal, IsStated}
 use Rattle.sq_calls.specs.declared.faults.DeskFault.{DeskFault}
 use Rattle.sq_calls.specs.declared.faults.DeskFault.TheVariants as fault

@@ -41,7 +41,7 @@ use Rattle.sq_engine.specs.Stepping.{after_step_now, epoch_of, step_now, stepped
 use Rattle.sq_engine.specs.Tellings.{IsTold}
 use Rattle.sq_engine.proofs.PromiseLaws.{ask_promised, failed_promised, started_promised, step_promised}
 use Rattle.sq_engine.proofs.TableLaws.{row_at_number}
-use Rattle.sq_journal_writers.specs.Noting.{with_entry}
+use Rattle.sq_journal.specs.Noting.{with_entry}
 use Rattle.sq_calls.specs.Legality.{Beginning, configs_over}
 use Rattle.sq_calls.specs.Telling.{AddsOne, AddsSome, HasNext, RefusesClass, noted_at}
 use Rattle.sq_calls.specs.declared.faults.DeskFault.{DeskFault}

@@ -24,7 +24,7 @@ use Rattle.sq_model.specs.States.{IsSame, State, is_of_pools, machine_moment}
 use Rattle.sq_model.proofs.Lawful.{stands_same}
 use Rattle.sq_engine.specs.EngineViews.{state_of}
 use Rattle.sq_engine.specs.Promised.{IsBegun}
-use Rattle.sq_journal_writers.specs.Noting.{with_entry}
+use Rattle.sq_journal.specs.Noting.{with_entry}
 use Rattle.sq_calls.specs.Legality.{Beginning, IsLegal, IsLegalFrom, IsStated, configs_over}
 use Rattle.sq_calls.specs.declared.faults.DeskFault.{DeskFault}
 use Rattle.sq_calls.specs.declared.faults.DeskFault.TheVariants as fault

@@ -32,7 +32,7 @@ use Rattle.sq_engine.specs.Acting.{IsActPromised, due_now, told_of_act}
 use Rattle.sq_engine.specs.EngineViews.{state_of}
 use Rattle.sq_engine.specs.Lines.{got_told as by_machine}
 use Rattle.sq_engine.specs.Stepping.{after_step_now, epoch_of, step_now, stepped_told}
-use Rattle.sq_journal_writers.specs.Noting.{with_entry}
+use Rattle.sq_journal.specs.Noting.{with_entry}
 use Rattle.sq_calls.specs.Legality.{Beginning, IsNameOf}
 use Rattle.sq_calls.specs.Telling.{CountsReconfigured, CountsLine, CountsRefusal, IsEventOf, IsLine, IsReread, IsStepTold, IsTakeTold, MayAct, Notes, NotesAs, Refuses, RefusesAt, got_told}
 use Rattle.sq_calls.specs.declared.faults.DeskFault.{DeskFault}

@@ -26,7 +26,7 @@ use Rattle.sq_model.specs.States.{IsSame, State}
 use Rattle.sq_engine.specs.Acting.{after_act, due_now, told_of_act}
 use Rattle.sq_engine.specs.EngineViews.{EngineView, state_of}
 use Rattle.sq_engine.specs.Lines.{IsLineDone, got_told}
-use Rattle.sq_journal_writers.specs.Noting.{with_entry}
+use Rattle.sq_journal.specs.Noting.{with_entry}
 use Rattle.sq_calls.specs.declared.faults.DeskFault.{DeskFault}
 use Rattle.sq_calls.specs.declared.faults.DeskFault.TheVariants as fault
 use Rattle.sq_desk.specs.Desks.{DeskView}

@@ -5,7 +5,7 @@ use Rattle.sq_outside.specs.Causes.{Rose, raised}
 use Rattle.sq_machine.specs.Entries.{History, Noted}
 use Rattle.sq_machine.specs.declared.refusals.Refusal.{Refusal}
 use Rattle.sq_machine.specs.declared.refusals.Refusal.TheVariants as refusal
-use Rattle.sq_journal_writers.specs.Noting.{with_entry}
+use Rattle.sq_journal.specs.Noting.{with_entry}
 use Rattle.sq_calls.specs.declared.faults.DeskFault.{DeskFault}
 use Rattle.sq_calls.specs.declared.faults.DeskFault.TheVariants as fault
 

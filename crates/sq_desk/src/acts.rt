@@ -8,7 +8,7 @@ use crate::notes::Notes;
 use sq_base::{Moment, WantOfMemory};
 use sq_calls::DeskFault;
 use sq_engine::Engine;
-use sq_journal_writers::Journal;
+use sq_journal::Journal;
 use sq_machine::{Act, Entry, Event, Told, later};
 use std::alloc::Global;
 

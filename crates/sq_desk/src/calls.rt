@@ -27,7 +27,7 @@ use sq_base::{
 use sq_calls::{ConnCalls, ControlCalls, DeskCalls, DeskFault, HelperCalls, TellsJournal};
 use sq_channel::Got;
 use sq_checks::Record;
-use sq_journal_writers::Journal;
+use sq_journal::Journal;
 use sq_machine::Act;
 use sq_model::Stepped;
 use sq_rules::Config;

@@ -13,7 +13,7 @@ use crate::notes::Notes;
 use sq_base::{Addr, ConnNo, Moment};
 use sq_calls::DeskFault;
 use sq_engine::Engine;
-use sq_journal_writers::Journal;
+use sq_journal::Journal;
 use sq_machine::{Entry, Event, Told, later};
 
 // A client's connection opens, and a place is made for its close.

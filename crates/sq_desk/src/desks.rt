@@ -11,7 +11,7 @@ use sq_base::{EpochNo, Moment, WantOfMemory};
 use sq_cache::HashSeed;
 use sq_calls::DeskFault;
 use sq_engine::Engine;
-use sq_journal_writers::Journal;
+use sq_journal::Journal;
 use sq_machine::{Entry, Event, Offset, Told};
 use sq_outside::COUNT_LIMIT;
 use sq_urlmatch::Setup;

@@ -12,7 +12,7 @@ use crate::notes::Notes;
 use sq_base::{Moment, ProcNo};
 use sq_calls::DeskFault;
 use sq_engine::Engine;
-use sq_journal_writers::Journal;
+use sq_journal::Journal;
 use sq_machine::{Entry, Event, Told, later};
 
 // A process died. The place is there.

@@ -10,7 +10,7 @@ use sq_base::{Moment, ProcNo, Text, WantOfMemory};
 use sq_calls::DeskFault;
 use sq_channel::Got;
 use sq_engine::Engine;
-use sq_journal_writers::Journal;
+use sq_journal::Journal;
 use sq_machine::{Entry, Event, Told, later};
 use std::alloc::Global;
 

@@ -6,7 +6,7 @@ ghost use Rattle.sq_desk.specs.Noting.{IsNoted, IsReady, after_refusal, counted}
 
 use sq_base::{EpochNo, WantOfMemory};
 use sq_calls::DeskFault;
-use sq_journal_writers::Journal;
+use sq_journal::Journal;
 use sq_machine::{Entry, Refusal};
 use sq_outside::{COUNT_LIMIT, Failed};
 use std::marker::Model;

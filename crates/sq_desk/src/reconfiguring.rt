@@ -7,7 +7,7 @@ use crate::notes::Notes;
 use sq_base::{Copying, EpochNo, Moment, Text, WantOfMemory};
 use sq_calls::DeskFault;
 use sq_engine::Engine;
-use sq_journal_writers::Journal;
+use sq_journal::Journal;
 use sq_machine::{Entry, Event, Told, later};
 use sq_urlmatch::Setup;
 use std::alloc::Global;

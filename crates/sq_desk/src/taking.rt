@@ -17,7 +17,7 @@ use sq_base::{CheckNo, Moment, WantOfMemory};
 use sq_calls::DeskFault;
 use sq_checks::Record;
 use sq_engine::Engine;
-use sq_journal_writers::Journal;
+use sq_journal::Journal;
 use sq_machine::{Entry, Event, Refusal, Told, later};
 use sq_model::copy_outcome;
 use sq_rules::Outcome;

@@ -7,7 +7,9 @@ mod EventLaws
 mod FieldLaws
 mod FieldTextLaws
 mod FrontLaws
+pub mod JournalLaws
 pub mod LineLaws
+mod MemLaws
 pub mod NumberedLaws
 pub mod PutLaws
 pub mod PutSameLaws

@@ -1,10 +1,13 @@
 pub mod EntryText
 pub mod Journals
 pub mod Lines
+pub mod Memory
 pub mod Names
+pub mod Noting
 pub mod PrintedText
 pub mod Printing
 pub mod Putting
 pub mod Reading
+pub mod Sinks
 pub mod ToldReading
 pub mod Values

@@ -1,4 +1,4 @@
-//! The texts of journal entries and of a script's lines.
+//! The texts of journal entries and of a script's lines, and journals that are written.
 //!
 //! `print_entry` gives the one text of an entry, a line without its LF; `read_entry` reads exactly the
 //! texts that some entry has, and gives that entry; `read_event` does the same for a moment and an
@@ -10,6 +10,10 @@
 //! of fields that it gives, and for a while the whole text of a field and the printed text of an
 //! address: all in proportion to the line. A line that it refuses may take memory too, and so may end
 //! by want of it. No clause says what a call costs.
+//!
+//! `Journal` says what a call does to the entries that a journal tells, to its spare places and to its count of
+//! faults: `reserve` makes places, and may want memory; `note` takes one, and takes no memory. `MemJournal` tells its
+//! entries and fails where its lists say so. `SinkJournal` writes version 2 to a sink, and nothing after a fault.
 #![tactic(auto)]
 
 mod addresses;
@@ -18,6 +22,9 @@ mod entries;
 mod escapes;
 mod events;
 mod faults;
+mod journal;
+mod lines;
+mod mem_journal;
 mod names;
 mod numbered;
 mod outcomes;
@@ -25,6 +32,7 @@ mod printing;
 mod putting;
 mod ranges;
 mod rows;
+mod sink_journal;
 mod told_printing;
 mod values;
 mod words;
@@ -32,6 +40,9 @@ mod words;
 pub use entries::{print_entry, read_entry, read_event, write_entry};
 pub use escapes::ESCAPES;
 pub use faults::EntryFault;
+pub use journal::Journal;
+pub use mem_journal::MemJournal;
 pub use numbered::{print_numbered, read_numbered, write_numbered};
 pub use ranges::holds_values;
+pub use sink_journal::SinkJournal;
 pub use values::minutes_of;

@@ -1,6 +1,6 @@
 //! What a call is given of the world: devices, of which one type names the kinds, and what it runs on.
 use sq_cache::HashSeed;
-use sq_journal_writers::Journal;
+use sq_journal::Journal;
 use sq_outside::{Files, Net, Sink, Source};
 
 /// Of which types the files, the sink, the source of orders, the net and the journal of a call are.

@@ -42,7 +42,7 @@ use Rattle.sq_engine.specs.contracts.current.Current as current
 use Rattle.sq_engine.specs.contracts.current.Current.TheInside as current_inside
 use Rattle.sq_engine.specs.contracts.engines.Engine as engine
 use Rattle.sq_engine.specs.contracts.engines.Engine.TheInside as engine_inside
-use Rattle.sq_journal_writers.specs.declared.journal.Journal as journal
+use Rattle.sq_journal.specs.declared.journal.Journal as journal
 use Rattle.sq_desk.specs.contracts.notes.Notes as notes
 use Rattle.sq_desk.specs.contracts.notes.Notes.TheInside as notes_inside
 use Rattle.sq_desk.specs.declared.desks.DeskStart as first

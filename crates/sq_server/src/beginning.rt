@@ -11,7 +11,7 @@ use crate::watched::{Before, Watched};
 use sq_base::{Copying, EpochNo, Moment, WantOfMemory};
 use sq_calls::{DeskCalls, DeskFault};
 use sq_desk::{Desk, DeskStart};
-use sq_journal_writers::Journal;
+use sq_journal::Journal;
 use sq_pools::{Pools, TagPools};
 use sq_rewrite::Rewriter;
 use sq_rules::Config;

@@ -16,7 +16,7 @@ use sq_base::WantOfMemory;
 use sq_calls::DeskFault;
 use sq_control::Panel;
 use sq_desk::{Desk, DeskStart};
-use sq_journal_writers::Journal;
+use sq_journal::Journal;
 use sq_outside::{Clock, Net, Parts};
 use sq_rules::Config;
 use sq_server_threads::{REFUSALS, ServerRun, ThreadTools, Tools};

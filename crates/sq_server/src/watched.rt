@@ -3,7 +3,7 @@ ghost use Rattle.std.specs.Prelude.{◌≡◌, ◌≤◌, ℕ, true, false};
 ghost use Rattle.sq_outside.specs.Causes.{Rose};
 
 use sq_base::WantOfMemory;
-use sq_journal_writers::Journal;
+use sq_journal::Journal;
 use sq_machine::Entry;
 use sq_outside::Failed;
 use std::marker::{Brand, PhantomData};

@@ -9,8 +9,8 @@ use Rattle.sq_machine.specs.Entries.{Noted, History}
 use Rattle.sq_journal.specs.Journals.{epoch_at, greatest_number, journal_text, next_number, number_at, numbered_lines, numbered_text, version_line}
 use Rattle.sq_journal.specs.Lines.{spaced_words}
 use Rattle.sq_journal.specs.ToldReading.{entry_of}
-use Rattle.sq_journal_writers.specs.Sinks.{epoch_behind, line_after}
-use Rattle.sq_journal_writers.proofs.JournalLaws.{text_after, text_begins, epoch_next}
+use Rattle.sq_journal.specs.Sinks.{epoch_behind, line_after}
+use Rattle.sq_journal.proofs.JournalLaws.{text_after, text_begins, epoch_next}
 use Rattle.sq_replay.specs.Runs.{EndsLine, Wrote, WroteFront, WroteLines, WrotePart}
 use Rattle.sq_replay.specs.declared.page.Unwritten.{Unwritten}
 use Rattle.sq_replay.specs.declared.page.Unwritten.TheVariants as untold

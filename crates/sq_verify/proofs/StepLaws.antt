@@ -14,7 +14,7 @@ use Rattle.sq_machine.specs.Next.{Next, gives, nothing, refuses}
 use Rattle.sq_machine.specs.Marking.{marked}
 use Rattle.sq_machine.specs.Readings.{current, epoch_after}
 use Rattle.sq_journal.specs.Journals.{epoch_at, greatest_number, next_number, number_at}
-use Rattle.sq_journal_writers.specs.Sinks.{epoch_behind}
+use Rattle.sq_journal.specs.Sinks.{epoch_behind}
 use Rattle.sq_replay.specs.declared.stops.Stop.{Stop}
 use Rattle.sq_replay.specs.declared.stops.Stop.TheVariants as stop
 use Rattle.sq_replay.specs.Making.{is_refused}

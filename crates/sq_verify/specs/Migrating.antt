@@ -10,7 +10,7 @@ use Rattle.sq_machine.specs.Events.{is_begin}
 use Rattle.sq_journal.specs.Journals.{epoch_at, journal_text, version_line}
 use Rattle.sq_journal.specs.Lines.{spaced_words}
 use Rattle.sq_journal.specs.ToldReading.{entry_of}
-use Rattle.sq_journal_writers.specs.Sinks.{epoch_behind, line_after}
+use Rattle.sq_journal.specs.Sinks.{epoch_behind, line_after}
 use Rattle.sq_replay.specs.Runs.{Wrote, WroteFront, WroteLines, WrotePart}
 use Rattle.sq_replay.specs.declared.page.Unwritten.{Unwritten}
 use Rattle.sq_replay.specs.declared.page.Unwritten.TheVariants as untold

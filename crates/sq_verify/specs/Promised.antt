@@ -18,7 +18,7 @@ use Rattle.sq_machine.specs.Marking.{marked}
 use Rattle.sq_machine.specs.Readings.{current}
 use Rattle.sq_model.specs.Given.{EachOf}
 use Rattle.sq_journal.specs.Journals.{epoch_at}
-use Rattle.sq_journal_writers.specs.Sinks.{epoch_behind}
+use Rattle.sq_journal.specs.Sinks.{epoch_behind}
 use Rattle.sq_conf.specs.declared.faults.ConfFault.{ConfFault}
 use Rattle.sq_conf.specs.declared.faults.ConfFault.TheVariants as conf
 use Rattle.sq_replay.specs.declared.stops.Stop.{Stop}

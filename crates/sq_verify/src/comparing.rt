@@ -2,7 +2,7 @@
 ghost use Rattle.std.specs.Prelude.{◌≡◌, ◌<◌, ◌^◌, IfOk};
 ghost use Rattle.sq_journal.specs.Reading.{ReadsText};
 ghost use Rattle.sq_journal.specs.Journals.{next_number};
-ghost use Rattle.sq_journal_writers.specs.Sinks.{epoch_behind};
+ghost use Rattle.sq_journal.specs.Sinks.{epoch_behind};
 ghost use Rattle.sq_verify.specs.JournalLines.{noted_in, text_in};
 ghost use Rattle.sq_verify.specs.Promised.{Compares};
 ghost use Rattle.sq_verify.specs.declared.versions.Version.TheVariants as version;

@@ -1,6 +1,6 @@
 //! A desk that runs the job, and what comes of it.
 ghost use Rattle.std.specs.Prelude.{◌≡◌, pos, []};
-ghost use Rattle.sq_journal_writers.specs.Memory.{mem_history};
+ghost use Rattle.sq_journal.specs.Memory.{mem_history};
 
 use crate::calls::{Gave, call, call_helper, call_hub, is_same, setup_of};
 use crate::jobs::{BEGIN, CONF, LINES};
@@ -9,8 +9,7 @@ use sq_cache::HashSeed;
 use sq_calls::{DeskCalls, DeskFault, HelperCalls};
 use sq_conn_policy::Hub;
 use sq_desk::{Desk, DeskStart};
-use sq_journal::{print_entry, read_entry, read_event};
-use sq_journal_writers::{Journal, MemJournal};
+use sq_journal::{Journal, MemJournal, print_entry, read_entry, read_event};
 use sq_machine::{Entry, Event, Offset, Told};
 use sq_urlmatch::Setup;
 use std::alloc::Global;

@@ -4,8 +4,7 @@ use crate::server::nets::{Client, Named, Origin, links, names, net, origins, pro
 use crate::server::spawners::PairedNet;
 use sq_base::Text;
 use sq_cache::HashSeed;
-use sq_journal::print_entry;
-use sq_journal_writers::MemJournal;
+use sq_journal::{MemJournal, print_entry};
 use sq_outside_mem::{MemFile, MemFiles, MemName, MemSink, Wire};
 use sq_proxy::{Platform, proxy};
 use std::alloc::Global;

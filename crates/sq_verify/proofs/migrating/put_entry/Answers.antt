@@ -1,6 +1,6 @@
 use Rattle.std.proofs.Common.{◌∙◌, ◌++◌, ◌∷◌, [], ◌==◌, Err, ap, inr, subst}
 use Rattle.sq_machine.specs.Entries.{Noted}
-use Rattle.sq_journal_writers.specs.Sinks.{epoch_behind}
+use Rattle.sq_journal.specs.Sinks.{epoch_behind}
 use Rattle.sq_replay.specs.declared.page.Unwritten.{Unwritten}
 use Rattle.sq_replay.specs.declared.page.Unwritten.TheVariants as untold
 use Rattle.sq_verify.specs.Migrating.{PutsText, first_behind}

@@ -7,7 +7,7 @@ use Rattle.sq_machine.specs.declared.entries.Event.{Event}
 use Rattle.sq_machine.specs.Entries.{Noted, History}
 use Rattle.sq_machine.specs.Events.{begins_epoch}
 use Rattle.sq_journal.specs.Journals.{version_line, numbered_line, next_number, number_at, epoch_at, journal_text}
-use Rattle.sq_journal_writers.specs.declared.sink_journal.SinkJournal.{SinkJournal}
+use Rattle.sq_journal.specs.declared.sink_journal.SinkJournal.{SinkJournal}
 
 -- the sink
 abbrev pub sink_of : {S : Type 0} → SinkJournal S → S

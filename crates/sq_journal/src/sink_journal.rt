@@ -3,7 +3,7 @@ ghost use Rattle.std.specs.Prelude.{◌≡◌, ◌+◌, ◌-◌, ◌^◌, ◌∷
 ghost use Rattle.sq_outside.specs.Causes.{HasCause, raised};
 ghost use Rattle.sq_outside.specs.Output.{Grew};
 ghost use Rattle.sq_machine.specs.Entries.{History};
-ghost use Rattle.sq_journal_writers.specs.Noting.{with_entry};
+ghost use Rattle.sq_journal.specs.Noting.{with_entry};
 
 use crate::journal::Journal;
 use crate::lines::{next_epoch, next_number, write_next};
@@ -26,7 +26,7 @@ pub struct SinkJournal<S> {
 }
 
 impl<S: Sink> SinkJournal<S> {
-    ghost use Rattle.sq_journal_writers.specs.Sinks.{HasWritten, sink_of, spare_of, faults_of, has_stopped};
+    ghost use Rattle.sq_journal.specs.Sinks.{HasWritten, sink_of, spare_of, faults_of, has_stopped};
 
     /// A journal without an entry, of which nothing is written yet.
     pub fn new(sink: S) -> SinkJournal<S>
@@ -67,7 +67,7 @@ impl<S: Sink> SinkJournal<S> {
 }
 
 impl<S: Sink> Journal for SinkJournal<S> {
-    ghost use Rattle.sq_journal_writers.specs.Sinks.{HasWritten, IsCutIn, sink_of, spare_of, faults_of, has_stopped};
+    ghost use Rattle.sq_journal.specs.Sinks.{HasWritten, IsCutIn, sink_of, spare_of, faults_of, has_stopped};
 
     ghost history = { λ _. None };
 

@@ -2,10 +2,10 @@
 ghost use Rattle.std.specs.Prelude.{◌≡◌, ◌++◌, ◌<◌, ◌^◌};
 ghost use Rattle.sq_journal.specs.Journals.{next_number, numbered_line, version_line};
 ghost use Rattle.sq_journal.specs.Putting.{Puts};
-ghost use Rattle.sq_journal_writers.specs.Sinks.{epoch_behind, line_after};
+ghost use Rattle.sq_journal.specs.Sinks.{epoch_behind, line_after};
 
+use crate::numbered::write_numbered;
 use sq_base::EpochNo;
-use sq_journal::write_numbered;
 use sq_machine::{Entry, Event};
 use sq_outside::{COUNT_LIMIT, Failed, Sink, write_all};
 

@@ -9,8 +9,8 @@ use Rattle.sq_machine.specs.Entries.{Noted, History}
 use Rattle.sq_machine.specs.Events.{begins_epoch}
 use Rattle.sq_machine.specs.Readings.{current, epoch_after}
 use Rattle.sq_journal.specs.Journals.{version_line, numbered_lines, numbered_line, next_number, greatest_number, number_at, epoch_at, journal_text}
-use Rattle.sq_journal_writers.specs.Sinks.{epoch_behind, line_after, HasWritten, IsCutIn, has_stopped}
-use Rattle.sq_journal_writers.specs.declared.sink_journal.SinkJournal.{SinkJournal}
+use Rattle.sq_journal.specs.Sinks.{epoch_behind, line_after, HasWritten, IsCutIn, has_stopped}
+use Rattle.sq_journal.specs.declared.sink_journal.SinkJournal.{SinkJournal}
 
 not_zero : (n : ℕ) → 0 < n → (n == 0) ≡ false
 not_zero n h = grind (arith, h)

@@ -3,7 +3,7 @@ ghost use Rattle.std.specs.Prelude.{◌≡◌, ◌+◌, ℕ, ◌<◌, ◌≤◌,
 ghost use Rattle.std.specs.declared.option.Option.{Option};
 ghost use Rattle.sq_outside.specs.Causes.{HasCause, count_limit};
 ghost use Rattle.sq_machine.specs.Entries.{History};
-ghost use Rattle.sq_journal_writers.specs.Noting.{with_entry};
+ghost use Rattle.sq_journal.specs.Noting.{with_entry};
 
 use sq_base::WantOfMemory;
 use sq_machine::Entry;

@@ -1,8 +1,8 @@
 use Rattle.std.proofs.Common.{◌∙◌, ap, refl, sym, subst}
 use Rattle.sq_outside.specs.Output.{Grew}
-use Rattle.sq_journal_writers.specs.Sinks.{IsCutIn, epoch_behind}
-use Rattle.sq_journal_writers.proofs.JournalLaws.{holds_next, holds_cut}
-use Rattle.sq_journal_writers.proofs.sink_journal.SinkJournalJournal.note.Goals as goal
+use Rattle.sq_journal.specs.Sinks.{IsCutIn, epoch_behind}
+use Rattle.sq_journal.proofs.JournalLaws.{holds_next, holds_cut}
+use Rattle.sq_journal.proofs.sink_journal.SinkJournalJournal.note.Goals as goal
 
 pub returns-in-Ok-clause-holds : goal.returns-in-Ok-clause-holds
 returns-in-Ok-clause-holds g c = λ start h at.

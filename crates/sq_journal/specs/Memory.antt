@@ -2,7 +2,7 @@
 use Rattle.std.specs.Prelude.{ℕ, ◌-◌, List, reverse, Bool, ◌||◌, nat_lt, vec_len}
 use Rattle.sq_outside.specs.Calls.{next_call, is_listed}
 use Rattle.sq_machine.specs.Entries.{Noted, History}
-use Rattle.sq_journal_writers.specs.declared.mem_journal.MemJournal.{MemJournal}
+use Rattle.sq_journal.specs.declared.mem_journal.MemJournal.{MemJournal}
 
 -- the entries, the oldest first
 abbrev pub mem_entries : MemJournal → List Noted

@@ -2,7 +2,7 @@
 ghost use Rattle.std.specs.Prelude.{◌≡◌, ◌+◌, ◌∷◌, [], ◌++◌, ◌<◌, ◌≤◌, max, vec_len, vec_capacity, Some, IfOk, OnOk, OnErr, is_err};
 ghost use Rattle.sq_outside.specs.Calls.{next_call, counted};
 ghost use Rattle.sq_outside.specs.Causes.{HasCause};
-ghost use Rattle.sq_journal_writers.specs.Noting.{with_entry};
+ghost use Rattle.sq_journal.specs.Noting.{with_entry};
 
 use crate::journal::Journal;
 use sq_base::WantOfMemory;
@@ -23,7 +23,7 @@ pub struct MemJournal {
 }
 
 impl MemJournal {
-    ghost use Rattle.sq_journal_writers.specs.Memory.{mem_entries, mem_room, mem_spare, mem_fails, mem_notes, mem_wants, mem_reserves, mem_faults};
+    ghost use Rattle.sq_journal.specs.Memory.{mem_entries, mem_room, mem_spare, mem_fails, mem_notes, mem_wants, mem_reserves, mem_faults};
 
     /// A journal with this room, of which the notes with these numbers are to fail, and the reserves with those
     /// numbers to want memory. No place is made yet.
@@ -61,7 +61,7 @@ impl MemJournal {
 }
 
 impl Journal for MemJournal {
-    ghost use Rattle.sq_journal_writers.specs.Memory.{mem_entries, mem_history, mem_room, mem_spare, mem_fails, mem_notes, mem_fails_next, mem_wants, mem_reserves, mem_wants_next, mem_faults};
+    ghost use Rattle.sq_journal.specs.Memory.{mem_entries, mem_history, mem_room, mem_spare, mem_fails, mem_notes, mem_fails_next, mem_wants, mem_reserves, mem_wants_next, mem_faults};
 
     ghost history = { λ j. Some (mem_history j) };
 
