@@ -13,9 +13,9 @@ use Rattle.sq_rules.specs.Configurations.{Configuration}
 use Rattle.sq_calls.specs.declared.faults.DeskFault.{DeskFault}
 use Rattle.sq_control.specs.declared.panel.PanelEnd.{PanelEnd}
 use Rattle.sq_control.specs.declared.panel.PanelEnd.TheVariants as ends
-use Rattle.sq_control_reread.specs.Rereading.{Asks, CountsMade, is_answer}
-use Rattle.sq_control_reread.specs.declared.control.Reread.{Reread}
-use Rattle.sq_control_reread.specs.declared.control.Reread.TheVariants as reread
+use Rattle.sq_control.specs.Rereading.{Asks, CountsMade, is_answer}
+use Rattle.sq_control.specs.declared.control.Reread.{Reread}
+use Rattle.sq_control.specs.declared.control.Reread.TheVariants as reread
 use Rattle.sq_control.specs.Attending.{AreReread, Attends, CountsEpochs, HasCauses, HasEpoch, IsFollowed, IsReread, Seen, StatesConfiguration, Streams, counts_made, made_in}
 use Rattle.sq_control.specs.Orders.{IsNext, IsOrdered, counts_with, left_with, lines_left, rereads_in}
 use Rattle.sq_control.specs.ControlText.{control_text, listening_text, reread_text, rereads_text}

@@ -1,3 +1,4 @@
 mod AttendLaws
 mod OrderLaws
 mod ControlTextLaws
+pub mod RereadLaws

@@ -11,9 +11,9 @@ use Rattle.sq_outside.specs.Told.{IsNotTold, Openings, Texts}
 use Rattle.sq_rules.specs.Configurations.{Configuration}
 use Rattle.sq_machine.specs.Entries.{History}
 use Rattle.sq_rules.specs.declared.kinds.ConfError.{ConfError}
-use Rattle.sq_control_reread.specs.Rereading.{Adds, CountsMade, IsRefused, OfFile, States, is_answer, is_refusal}
-use Rattle.sq_control_reread.specs.declared.control.Reread.{Reread}
-use Rattle.sq_control_reread.specs.declared.control.Reread.TheVariants as reread
+use Rattle.sq_control.specs.Rereading.{Adds, CountsMade, IsRefused, OfFile, States, is_answer, is_refusal}
+use Rattle.sq_control.specs.declared.control.Reread.{Reread}
+use Rattle.sq_control.specs.declared.control.Reread.TheVariants as reread
 use Rattle.sq_control.specs.Orders.{lines_left, rereads_in}
 use Rattle.sq_control.specs.ControlText.{control_text}
 use Rattle.sq_control.specs.declared.panel.PanelEnd.{PanelEnd}

@@ -2,8 +2,8 @@
 -- The lines that a control writes.
 use Rattle.std.specs.Prelude.{ℕ, List, [], ◌∷◌, ◌++◌, codes, decimal}
 use Rattle.sq_rules.specs.Kinds.{kind_number}
-use Rattle.sq_control_reread.specs.declared.control.Reread.{Reread}
-use Rattle.sq_control_reread.specs.declared.control.Reread.TheVariants as reread
+use Rattle.sq_control.specs.declared.control.Reread.{Reread}
+use Rattle.sq_control.specs.declared.control.Reread.TheVariants as reread
 
 -- the line that says at which port a server listens
 abbrev pub listening_text : ℕ → List ℕ

@@ -1,3 +1,5 @@
 pub mod Attending
+pub mod ControlViews
 pub mod Orders
+pub mod Rereading
 pub mod ControlText

@@ -4,14 +4,14 @@ ghost use Rattle.std.specs.declared.option.Option.{Option};
 ghost use Rattle.sq_outside.specs.World.{GivesMoment};
 ghost use Rattle.sq_calls.specs.Moments.{IsTimely};
 ghost use Rattle.sq_control.specs.Attending.{Attends};
-ghost use Rattle.sq_control_reread.specs.ControlViews.{desk_of};
+ghost use Rattle.sq_control.specs.ControlViews.{desk_of};
 
+use crate::control::{Control, Reread};
 use crate::orders::{Order, next_order};
 use crate::panel::PanelEnd;
 use crate::writing::{write_listening, write_reread};
 use sq_base::{EpochNo, Moment, Text};
 use sq_calls::{ControlCalls, TellsJournal};
-use sq_control_reread::{Control, Reread};
 use sq_outside::{Failed, Files, Sink, Source};
 use sq_rules::Config;
 use std::sync::{Arc, Wait};

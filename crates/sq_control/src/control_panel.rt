@@ -2,10 +2,10 @@
 ghost use Rattle.std.specs.Prelude.{◌≡◌, ◌<◌};
 
 use crate::attending::{Beside, attend};
+use crate::control::Control;
 use crate::panel::{Monitor, Panel, PanelEnd};
 use sq_base::{EpochNo, Moment, Text};
 use sq_calls::DeskCalls;
-use sq_control_reread::Control;
 use sq_outside::{Files, Sink, Source};
 use sq_rules::Config;
 use sq_shared::{Bank, ControlDesk, Grants, Ledgers, Makes, Refusals, Room, is_stopped};

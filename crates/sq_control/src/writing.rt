@@ -5,8 +5,8 @@ ghost use Rattle.sq_outside.specs.Causes.{HasCause};
 ghost use Rattle.sq_outside.specs.Output.{Grew, IsProperPrefix};
 ghost use Rattle.sq_control.specs.ControlText.{listening_text, reread_text};
 
+use crate::control::Reread;
 use itoa::Buffer;
-use sq_control_reread::Reread;
 use sq_outside::{Failed, Sink, write_all, write_line};
 
 // Writes a line that ends with a number.

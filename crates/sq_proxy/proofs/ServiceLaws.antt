@@ -17,7 +17,7 @@ use Rattle.sq_desk.specs.Calling.{IsUnbegun}
 use Rattle.sq_calls.specs.Legality.{Beginning, IsLegal}
 use Rattle.sq_control.specs.declared.panel.PanelEnd.{PanelEnd}
 use Rattle.sq_control.specs.declared.panel.PanelEnd.TheVariants as panel
-use Rattle.sq_control_reread.specs.declared.control.Reread.{Reread}
+use Rattle.sq_control.specs.declared.control.Reread.{Reread}
 use Rattle.sq_control.specs.Attending.{AreReread, FilesSeen, Runs, Seen, Streams}
 use Rattle.sq_commands.specs.Commands.{conf_stage}
 use Rattle.sq_commands.specs.Ends.{Comes, IfMissing, IsFault, IsOpenEnd, last_line}

@@ -1,6 +1,6 @@
 use Rattle.std.proofs.Common.{inl, inr, refl, sym, ◌∙◌}
 use Rattle.sq_calls.proofs.MomentLaws.{timely_and, timely_one}
-use Rattle.sq_control_reread.specs.ControlViews.{desk_of}
+use Rattle.sq_control.specs.ControlViews.{desk_of}
 use Rattle.sq_control.specs.Attending.{IsReread, Seen}
 use Rattle.sq_control.proofs.AttendLaws.{asked_of, going_fails, going_on, going_over, going_reread, going_stops, going_unread, going_unwritten, same_texts, unwritten}
 use Rattle.sq_control.proofs.attending.attend.Goals as goal

@@ -1,6 +1,6 @@
 use Rattle.std.proofs.Common.{◌≡◌}
 use Rattle.sq_calls.specs.Moments.{IsTimely}
-use Rattle.sq_control_reread.specs.ControlViews.{desk_of}
+use Rattle.sq_control.specs.ControlViews.{desk_of}
 use Rattle.sq_control.proofs.AttendLaws.{IsGoing}
 use Rattle.sq_control.proofs.attending.attend.Given as goal
 

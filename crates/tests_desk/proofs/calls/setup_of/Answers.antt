@@ -1,5 +1,5 @@
 use Rattle.std.proofs.lemmas.Result.{IfOk-at_ok}
-use Rattle.sq_control_reread.proofs.RereadLaws.{is_stated}
+use Rattle.sq_control.proofs.RereadLaws.{is_stated}
 use Rattle.tests_desk.proofs.calls.setup_of.Goals as goal
 
 pub returns : goal.returns

@@ -3,9 +3,9 @@ use Rattle.sq_machine.specs.declared.entries.Told.TheVariants as answer
 use Rattle.sq_calls.specs.Telling.{IsReread}
 use Rattle.sq_calls.proofs.MomentLaws.{grew_none, notes_grew}
 use Rattle.sq_rules.specs.ConfText.{conf_refuses}
-use Rattle.sq_control_reread.specs.Rereading.{Adds, States}
-use Rattle.sq_control_reread.proofs.RereadLaws.{adds_of, of_file, states_of}
-use Rattle.sq_control_reread.proofs.control.Control.reread.Goals as goal
+use Rattle.sq_control.specs.Rereading.{Adds, States}
+use Rattle.sq_control.proofs.RereadLaws.{adds_of, of_file, states_of}
+use Rattle.sq_control.proofs.control.Control.reread.Goals as goal
 
 pub returns-in-Err-At-clause-at : goal.returns-in-Err-At-clause-at
 returns-in-Err-At-clause-at g c e is =

@@ -11,7 +11,7 @@ ghost use Rattle.sq_calls.specs.Legality.{IsStated};
 ghost use Rattle.sq_calls.specs.Moments.{GrewAt};
 ghost use Rattle.sq_calls.specs.Telling.{CountsRefusal, IsReread, Notes};
 ghost use Rattle.sq_machine.specs.declared.entries.Told.TheVariants as answer;
-ghost use Rattle.sq_control_reread.specs.Rereading.{Adds, Asks, CountsMade, IsRefused, answers, is_refusal};
+ghost use Rattle.sq_control.specs.Rereading.{Adds, Asks, CountsMade, IsRefused, answers, is_refusal};
 
 use sq_base::{EpochNo, Moment, Text};
 use sq_calls::{ControlCalls, DeskFault};
@@ -83,7 +83,7 @@ fn answer_of(gave: Result<EpochNo, DeskFault>) -> Reread
 }
 
 impl<K: ControlCalls> Control<K> {
-    ghost use Rattle.sq_control_reread.specs.ControlViews.{desk_of};
+    ghost use Rattle.sq_control.specs.ControlViews.{desk_of};
 
     /// A control over this desk.
     pub fn new(alloc: Global, desk: K) -> Control<K>

@@ -12,8 +12,8 @@ use Rattle.sq_machine.specs.declared.entries.Event.TheVariants as event
 use Rattle.sq_machine.specs.declared.entries.Told.TheVariants as answer
 use Rattle.sq_rules.specs.declared.kinds.ConfError.{ConfError}
 use Rattle.sq_machine.specs.declared.refusals.Refusal.TheVariants as refusal
-use Rattle.sq_control_reread.specs.declared.control.Reread.{Reread}
-use Rattle.sq_control_reread.specs.declared.control.Reread.TheVariants as reread
+use Rattle.sq_control.specs.declared.control.Reread.{Reread}
+use Rattle.sq_control.specs.declared.control.Reread.TheVariants as reread
 
 -- what the desk's answer comes to
 abbrev pub answers : Result ℕ DeskFault → Reread

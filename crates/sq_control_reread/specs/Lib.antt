@@ -1,2 +1,0 @@
-pub mod ControlViews
-pub mod Rereading
