@@ -5,10 +5,10 @@ use Rattle.std.proofs.lemmas.Bool.Decides.{nat_tests}
 use Rattle.sq_machine.specs.PoolReadings.{Beginning, BucketSpot, bucket_pairs, has_spot, is_aggregate, is_spot, spots_from, spots_of}
 use Rattle.sq_rules.specs.Rates.{Limit}
 use Rattle.sq_rules.specs.declared.pools.Pool.{Pool}
-use Rattle.sq_pools.specs.Grants.{filled_if, is_aggregate_of, opened_in}
+use Rattle.sq_buckets.specs.Grants.{filled_if, is_aggregate_of, opened_in}
 use Rattle.sq_machine.specs.BucketLevels.{Filled}
-use Rattle.sq_pools.proofs.BucketLaws.{opened_more}
-use Rattle.sq_pools.proofs.SpotLaws.{both_first, spot_same, spots_past}
+use Rattle.sq_buckets.proofs.BucketLaws.{opened_more}
+use Rattle.sq_buckets.proofs.SpotLaws.{both_first, spot_same, spots_past}
 
 abbrev named : ℕ → Limit → BucketSpot
 named place r = record { pool = place; place = 0; host = 0; limit = r; tag = [] }

@@ -7,10 +7,10 @@ use Rattle.sq_machine.specs.Limits.{last_number}
 use Rattle.sq_machine.specs.PoolReadings.{Beginning, Sat, BucketSpot, has_spot, is_aggregate, is_spot, kept_if, made_if, second_of}
 use Rattle.sq_pools.specs.Basins.{Basin, HasLeft, IsBasin, IsBegun, IsSeated, bucket_in, granted_limit, made_in, seat_in, second_in, stays}
 use Rattle.sq_pools.specs.Generations.{buckets_at, filled_at, generation_at, held_at, is_left, made_at, second_at}
-use Rattle.sq_pools.specs.Grants.{are_own, are_there, bucket_at, filled_if, granted_if, opened_in}
+use Rattle.sq_buckets.specs.Grants.{are_own, are_there, bucket_at, filled_if, granted_if, opened_in}
 use Rattle.sq_pools.specs.Seats.{seat_at, seats_of}
 use Rattle.sq_pools.specs.declared.generations.Generation.{Generation}
-use Rattle.sq_pools.proofs.MapLaws.{number_key, spot_key}
+use Rattle.sq_buckets.proofs.MapLaws.{number_key, spot_key}
 use Rattle.sq_pools.proofs.SeatLaws.{seats_few, seats_less, seats_more, seats_some}
 
 -- pools of these parts

@@ -7,12 +7,12 @@ use Rattle.sq_machine.specs.BucketLevels.{Filled, filled_to}
 use Rattle.sq_machine.specs.PoolReadings.{Sat, BucketSpot}
 use Rattle.sq_pools.specs.Basins.{IsBasin, is_dry, tally_then}
 use Rattle.sq_pools.specs.Generations.{buckets_at, second_at}
-use Rattle.sq_pools.specs.Grants.{are_there, bucket_at, least_at, level_or_none}
+use Rattle.sq_buckets.specs.Grants.{are_there, bucket_at, least_at, level_or_none}
 use Rattle.sq_pools.specs.Seats.{seat_at}
 use Rattle.sq_pools.specs.declared.generations.Generation.{Generation}
 use Rattle.sq_pools.proofs.AggregateLaws.{or_no}
 use Rattle.sq_pools.proofs.BasinLaws.{basin, seat_there}
-use Rattle.sq_pools.proofs.SpotLaws.{both_first, both_second}
+use Rattle.sq_buckets.proofs.SpotLaws.{both_first, both_second}
 
 zero_by : (a b : ℕ) (x y z : Bool) → (min a b == 0) ≡ x → (a == 0) ≡ y → (b == 0) ≡ z → x ≡ (y || z)
 zero_by a b true true z e f g = refl

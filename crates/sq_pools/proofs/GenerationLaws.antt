@@ -4,10 +4,10 @@ use Rattle.std.specs.Option.{option_map, option_map_or}
 use Rattle.sq_machine.specs.BucketLevels.{Filled}
 use Rattle.sq_machine.specs.PoolReadings.{BucketSpot, has_spot, kept_if, made_if, second_of}
 use Rattle.sq_pools.specs.Generations.{filled_at, generation_at, held_at, is_left, made_at, second_at}
-use Rattle.sq_pools.specs.Grants.{bucket_at, filled_if, granted_if, opened_in}
+use Rattle.sq_buckets.specs.Grants.{bucket_at, filled_if, granted_if, opened_in}
 use Rattle.sq_pools.specs.declared.generations.Generation.{Generation}
-use Rattle.sq_pools.proofs.MapLaws.{by_key, number_key, same_there}
-use Rattle.sq_pools.proofs.BucketLaws.{unchanged}
+use Rattle.sq_buckets.proofs.MapLaws.{by_key, number_key, same_there}
+use Rattle.sq_buckets.proofs.BucketLaws.{unchanged}
 
 -- the generation of one epoch is another one, or has gone
 abbrev pub HasAnother : ℕ → Option Generation → List (ℕ × Generation) → List (ℕ × Generation) → Type 0

@@ -6,7 +6,7 @@ use Rattle.std.specs.declared.option.Option.{Option}
 use Rattle.sq_rules.specs.Rates.{Limit}
 use Rattle.sq_machine.specs.BucketLevels.{IsBalanced, Tally, seconds, drawn, opened_at}
 use Rattle.sq_machine.specs.PoolReadings.{BucketSpot, Sat, grant_of, has_spot, in_use, is_grant, is_spot, kept_if, least_level, level_of, made_if, made_of, makes, is_needed, names_spot, opened_if, opens, seat_of, seconds_between, takes_at, tally_of, until, PoolEntry, PoolEvent, PoolHistory, Grants, beginning_by, latest_in}
-use Rattle.sq_pools.proofs.SpotLaws.{spot_same}
+use Rattle.sq_buckets.proofs.SpotLaws.{spot_same}
 use Rattle.sq_pools.specs.Flows.{AreGrants, Flows, GrantsWithin, Lives}
 use Rattle.sq_pools.proofs.FlowLaws.{flows_balanced, flows_bound, flows_drawn, flows_none, flows_on, flows_seconds}
 

@@ -3,7 +3,7 @@ use Rattle.std.proofs.Common.{◌≡◌, ◌∙◌, ◌==◌, ◌≤◌, ◌<◌
 use Rattle.std.proofs.lemmas.Bool.Decides.{nat_tests}
 use Rattle.sq_machine.specs.PoolReadings.{Sat, count_if, is_of_epoch}
 use Rattle.sq_pools.specs.Seats.{seat_at, seats_of}
-use Rattle.sq_pools.proofs.MapLaws.{number_key}
+use Rattle.sq_buckets.proofs.MapLaws.{number_key}
 
 -- for seats that are the same up to a number
 pub seats_same : (s t : List (ℕ × Sat)) (e n : ℕ) → ((m : ℕ) → m ≤ n → seat_at t m ≡ seat_at s m)

@@ -9,12 +9,12 @@ use Rattle.sq_machine.specs.PoolReadings.{Beginning, PoolEntry, PoolHistory, Beg
 use Rattle.sq_rules.specs.Rates.{Limit}
 use Rattle.sq_pools.specs.Basins.{Basin, HasLeft, HasPassed, IsBasin, IsBegun, IsFirst, IsGranted, IsSeated, bucket_in, grant_in, granted_limit, made_in, seat_in, second_in, stays, tally_then}
 use Rattle.sq_pools.specs.Generations.{buckets_at}
-use Rattle.sq_pools.specs.Grants.{filled_if, granted_if, least_at, level_or_none, opened_in}
+use Rattle.sq_buckets.specs.Grants.{filled_if, granted_if, least_at, level_or_none, opened_in}
 use Rattle.sq_pools.specs.Seats.{seat_at, seats_of}
 use Rattle.sq_pools.specs.Stands.{PoolsStand, entry}
 use Rattle.sq_pools.proofs.BasinLaws.{filled_made, passed_basin}
 use Rattle.sq_pools.proofs.GenerationLaws.{filled_other, made_other}
-use Rattle.sq_pools.proofs.MapLaws.{number_key}
+use Rattle.sq_buckets.proofs.MapLaws.{number_key}
 
 -- seconds and levels
 

@@ -12,7 +12,7 @@ use Rattle.sq_machine.specs.PoolReadings.{Beginning, Sat, BucketSpot, beginning_
 use Rattle.sq_machine.specs.SeatPlaces.{has_tags}
 use Rattle.sq_rules.specs.Verdicts.{is_passed_over}
 use Rattle.sq_pools.specs.Generations.{buckets_at, filled_at, held_at, made_at, second_at}
-use Rattle.sq_pools.specs.Grants.{are_own, filled_if, granted_if, least_at, opened_in}
+use Rattle.sq_buckets.specs.Grants.{are_own, filled_if, granted_if, least_at, opened_in}
 use Rattle.sq_pools.specs.Seats.{seat_at, seats_of}
 use Rattle.sq_pools.specs.declared.generations.Generation.{Generation}
 

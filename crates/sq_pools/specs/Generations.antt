@@ -5,7 +5,7 @@ use Rattle.std.specs.Option.{option_map, option_map_or}
 use Rattle.std.specs.declared.option.Option.{Option}
 use Rattle.sq_machine.specs.BucketLevels.{Filled}
 use Rattle.sq_machine.specs.PoolReadings.{BucketSpot, second_of}
-use Rattle.sq_pools.specs.Grants.{bucket_at}
+use Rattle.sq_buckets.specs.Grants.{bucket_at}
 use Rattle.sq_pools.specs.declared.generations.Generation.{Generation}
 
 -- the generation of an epoch

@@ -6,12 +6,10 @@ ghost use Rattle.sq_rules.specs.Limits.{initial_limit, pool_limit};
 ghost use Rattle.sq_machine.specs.PoolReadings as readings;
 ghost use Rattle.sq_machine.specs.PoolReadings.{has_spot, is_aggregate, kept_if, made_if, second_of};
 ghost use Rattle.sq_pools.specs.Generations.{buckets_at, filled_at, generation_at, held_at, is_left, made_at, second_at};
-ghost use Rattle.sq_pools.specs.Grants.{are_own, are_there, bucket_at, filled_if, granted_if, is_aggregate_of, least_at, opened_in};
+ghost use Rattle.sq_buckets.specs.Grants.{are_own, are_there, bucket_at, filled_if, granted_if, is_aggregate_of, least_at, opened_in};
 
-use crate::bucket::Bucket;
-use crate::buckets::Buckets;
-use crate::spots::{BucketSpot, bucket_pairs};
 use sq_base::{EpochNo, Moment, WantOfMemory};
+use sq_buckets::{Bucket, BucketSpot, Buckets, bucket_pairs};
 use sq_rules::Pool;
 use std::alloc::Global;
 use std::collections::BTreeMap;
@@ -191,8 +189,7 @@ impl Generations {
             (filled_at self.now epoch spot.now) }
     {
         let generation = self.map.get(&epoch)?;
-        let filling = generation.buckets.get(spot)?;
-        Some(filling.bucket_in(generation.second(now)))
+        generation.buckets.bucket(spot, generation.second(now))
     }
 
     // The second of the generation of an epoch that a moment lies in; 0 where there is none.

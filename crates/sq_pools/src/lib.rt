@@ -1,4 +1,4 @@
-//! Delay pools: buckets that fill second by second, and seats that are granted bytes from them.
+//! Delay pools: the buckets of each epoch, and seats that are granted bytes from them.
 //!
 //! `Pools` has a generation of buckets for each epoch that is the newest or has a seat in use. `choose` gives a
 //! seat in a pool, `grant` takes bytes from the seat's buckets, `leave` gives it up, and `renew` makes the
@@ -8,16 +8,12 @@
 //! seats numbers that stand in neither twice, and `HeldSeat` is a seat of the one or of the other.
 #![tactic(auto)]
 
-mod bucket;
-mod buckets;
 mod generations;
 mod held_seats;
 mod pools;
 mod seats;
-mod spots;
 mod tag_pools;
 
-pub use bucket::Bucket;
 pub use held_seats::HeldSeat;
 pub use pools::{ChooseFault, Pools};
 pub use seats::Seat;

@@ -6,15 +6,14 @@ ghost use Rattle.sq_rules.specs.Limits.{initial_limit, pool_limit};
 ghost use Rattle.sq_machine.specs.PoolReadings as readings;
 ghost use Rattle.sq_machine.specs.PoolReadings.{has_spot, is_aggregate, made_if};
 ghost use Rattle.sq_pools.specs.Generations.{filled_at, held_at, made_at, second_at};
-ghost use Rattle.sq_pools.specs.Grants.{are_own, filled_if, opened_in};
+ghost use Rattle.sq_buckets.specs.Grants.{are_own, filled_if, opened_in};
 ghost use Rattle.sq_pools.specs.Seats.{seat_at};
 ghost use Rattle.sq_pools.specs.Basins.{epoch_in, grant_in, has_pool, made_in, seat_in, spot_at, tally_at, is_dry, HasBegun, HasLeft, HasPassed, IsBasin, IsBegun, IsChosen, IsFirst, IsGranted, IsRenewed, IsSeated};
 
-use crate::bucket::Bucket;
 use crate::generations::Generations;
 use crate::seats::{Seat, Seated, Seats};
-use crate::spots::{BucketSpot, spots_of};
 use sq_base::{Addr, EpochNo, Moment, SeatNo, WantOfMemory};
+use sq_buckets::{Bucket, BucketSpot, spots_of};
 use sq_machine::{LAST_NUMBER, later};
 use sq_rules::{Config, Pool};
 use std::alloc::Global;

@@ -3,8 +3,8 @@ ghost use Rattle.std.specs.Prelude.{◌≡◌, ◌==◌, [], ℕ, Some, None, if
 ghost use Rattle.std.specs.Option.{option_copied};
 ghost use Rattle.sq_pools.specs.Seats.{seat_at, without_seat};
 
-use crate::spots::BucketSpot;
 use sq_base::{EpochNo, Listed, SeatNo, WantOfMemory};
+use sq_buckets::BucketSpot;
 use std::alloc::Global;
 use std::collections::BTreeMap;
 use std::marker::Model;

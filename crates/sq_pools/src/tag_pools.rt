@@ -3,11 +3,10 @@ ghost use Rattle.std.specs.Prelude.{◌≡◌, ◌<◌, ◌≤◌, ◌==◌, ◌
 ghost use Rattle.sq_machine.specs.Limits.{last_number};
 ghost use Rattle.sq_pools.specs.Basins.{epoch_in, grant_in, has_tag_pool, is_dry, made_in, seat_in, spot_at, tally_at, HasBegunTags, HasLeft, HasPassed, IsBasin, IsGranted, IsTagChosen, IsTagRenewed};
 
-use crate::bucket::Bucket;
 use crate::pools::{ChooseFault, Pools, pool_at};
 use crate::seats::{Seat, Seated};
-use crate::spots::tag_spots_of;
 use sq_base::{EpochNo, Moment, SeatNo, Text, WantOfMemory};
+use sq_buckets::{Bucket, tag_spots_of};
 use sq_rules::Config;
 use std::alloc::Global;
 use std::marker::Model;

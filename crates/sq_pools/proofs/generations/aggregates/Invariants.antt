@@ -1,6 +1,6 @@
 use Rattle.std.proofs.Common.{◌≡◌, ◌&&◌, nat_lt, None}
 use Rattle.sq_machine.specs.PoolReadings.{BucketSpot, is_aggregate}
-use Rattle.sq_pools.specs.Grants.{bucket_at, filled_if, opened_in}
+use Rattle.sq_buckets.specs.Grants.{bucket_at, filled_if, opened_in}
 use Rattle.sq_pools.proofs.generations.aggregates.Given as goal
 
 -- the aggregate buckets of the pools so far are open

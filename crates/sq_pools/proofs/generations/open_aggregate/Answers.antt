@@ -1,6 +1,6 @@
 use Rattle.std.proofs.Common.{◌≡◌, ◌∙◌, None, Some, [], ◌∷◌, slice_get, sym, ap}
 use Rattle.sq_machine.specs.PoolReadings.{bucket_pairs, has_spot}
-use Rattle.sq_pools.specs.Grants.{bucket_at, filled_if, is_aggregate_of, opened_in}
+use Rattle.sq_buckets.specs.Grants.{bucket_at, filled_if, is_aggregate_of, opened_in}
 use Rattle.sq_pools.proofs.AggregateLaws.{aggregate_is, aggregate_unlimited, or_no}
 use Rattle.sq_pools.proofs.GenerationLaws.{filled_other}
 use Rattle.sq_pools.proofs.generations.open_aggregate.Goals as goal

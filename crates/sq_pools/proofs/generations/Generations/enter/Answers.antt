@@ -7,7 +7,7 @@ use Rattle.sq_machine.specs.PoolReadings.{is_aggregate}
 use Rattle.sq_pools.specs.Generations.{generation_at, held_at}
 use Rattle.sq_pools.specs.declared.generations.Generation.{Generation}
 use Rattle.sq_pools.proofs.GenerationLaws.{HasAnother, entered_filled, entered_held, entered_made, held_there}
-use Rattle.sq_pools.proofs.MapLaws.{after, found, number_key}
+use Rattle.sq_buckets.proofs.MapLaws.{after, found, number_key}
 use Rattle.sq_pools.proofs.generations.Generations.enter.Goals as goal
 
 pub enter-requires-clause-held : goal.enter-requires-clause-held

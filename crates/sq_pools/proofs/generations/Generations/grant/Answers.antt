@@ -2,7 +2,7 @@ use Rattle.std.proofs.Common.{rules, ◌≡◌, ◌∙◌, ℕ, Some, ap, sym}
 use Rattle.sq_pools.specs.Generations.{generation_at, held_at, made_at}
 use Rattle.sq_pools.specs.declared.generations.Generation.{Generation}
 use Rattle.sq_pools.proofs.GenerationLaws.{HasAnother, granted_then, held_then, held_there, made_then, made_there}
-use Rattle.sq_pools.proofs.MapLaws.{after, found, number_key, same_there}
+use Rattle.sq_buckets.proofs.MapLaws.{after, found, number_key, same_there}
 use Rattle.sq_pools.proofs.generations.Generations.grant.Goals as goal
 
 pub returns-clause-made : goal.returns-clause-made

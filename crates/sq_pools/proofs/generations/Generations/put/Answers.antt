@@ -1,5 +1,5 @@
 use Rattle.std.proofs.Common.{Some}
-use Rattle.sq_pools.proofs.MapLaws.{after, number_key}
+use Rattle.sq_buckets.proofs.MapLaws.{after, number_key}
 use Rattle.sq_pools.proofs.generations.Generations.put.Goals as goal
 
 pub returns-clause-ok : goal.returns-clause-ok

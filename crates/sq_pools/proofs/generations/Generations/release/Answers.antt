@@ -1,9 +1,9 @@
 use Rattle.std.proofs.Common.{rules, ◌≡◌, ◌∙◌, ◌<◌, ◌-◌, Some, cond, ap, sym, refl, arith}
 use Rattle.sq_pools.specs.Generations.{filled_at, generation_at, held_at, made_at}
-use Rattle.sq_pools.specs.Grants.{bucket_at}
+use Rattle.sq_buckets.specs.Grants.{bucket_at}
 use Rattle.sq_pools.specs.declared.generations.Generation.{Generation}
 use Rattle.sq_pools.proofs.GenerationLaws.{HasAnother, filled_then, filled_there, held_then, held_there, made_then, made_there}
-use Rattle.sq_pools.proofs.MapLaws.{after, by_key, found, number_key, same_there}
+use Rattle.sq_buckets.proofs.MapLaws.{after, by_key, found, number_key, same_there}
 use Rattle.sq_pools.proofs.generations.Generations.release.Goals as goal
 
 pub overflow_sub-generation : goal.overflow_sub-generation

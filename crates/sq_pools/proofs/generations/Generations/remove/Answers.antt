@@ -1,5 +1,5 @@
 use Rattle.std.proofs.Common.{None}
-use Rattle.sq_pools.proofs.MapLaws.{after, number_key}
+use Rattle.sq_buckets.proofs.MapLaws.{after, number_key}
 use Rattle.sq_pools.proofs.generations.Generations.remove.Goals as goal
 
 pub returns : goal.returns

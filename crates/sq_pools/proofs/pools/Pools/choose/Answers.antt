@@ -1,5 +1,5 @@
 use Rattle.sq_machine.specs.PoolReadings.{bucket_pairs}
-use Rattle.sq_pools.proofs.SpotLaws.{own_spots}
+use Rattle.sq_buckets.proofs.SpotLaws.{own_spots}
 use Rattle.sq_pools.proofs.pools.Pools.choose.Goals as goal
 
 pub sit-requires-clause-own : goal.sit-requires-clause-own

@@ -2,10 +2,10 @@ use Rattle.std.proofs.Common.{◌≡◌, ◌∙◌, ◌==◌, ◌≤◌, Some, s
 use Rattle.sq_machine.specs.PoolReadings.{Sat}
 use Rattle.sq_pools.specs.Basins.{is_dry}
 use Rattle.sq_pools.specs.Generations.{buckets_at, second_at}
-use Rattle.sq_pools.specs.Grants.{least_at}
+use Rattle.sq_buckets.specs.Grants.{least_at}
 use Rattle.sq_pools.specs.Seats.{seat_at}
 use Rattle.sq_pools.proofs.BasinLaws.{basin, seat_made, seat_there}
-use Rattle.sq_pools.proofs.BucketLaws.{least_below}
+use Rattle.sq_buckets.proofs.BucketLaws.{least_below}
 use Rattle.sq_pools.proofs.DryLaws.{grant_dry}
 use Rattle.sq_pools.proofs.pools.Pools.grant.Goals as goal
 

@@ -2,7 +2,7 @@ use Rattle.std.proofs.Common.{◌≡◌, ◌==◌, ◌&&◌, ◌||◌, ◌≤◌
 use Rattle.sq_machine.specs.Limits.{last_number}
 use Rattle.sq_machine.specs.PoolReadings.{Sat, BucketSpot, has_spot, is_aggregate, made_if}
 use Rattle.sq_pools.specs.Generations.{filled_at, held_at, made_at, second_at}
-use Rattle.sq_pools.specs.Grants.{filled_if, opened_in}
+use Rattle.sq_buckets.specs.Grants.{filled_if, opened_in}
 use Rattle.sq_pools.specs.Seats.{seat_at}
 use Rattle.sq_pools.proofs.BasinLaws.{IsLoose, basin, chosen_loose, held_few, is_seated, retired_basin}
 use Rattle.sq_pools.proofs.pools.Pools.sit.Goals as goal

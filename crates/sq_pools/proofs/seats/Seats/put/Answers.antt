@@ -1,6 +1,6 @@
 use Rattle.std.proofs.Common.{◌≡◌, ◌∙◌, ap, Some, None}
 use Rattle.sq_pools.specs.Seats.{seat_at, without_seat}
-use Rattle.sq_pools.proofs.MapLaws.{after, number_key, put_undone}
+use Rattle.sq_buckets.proofs.MapLaws.{after, number_key, put_undone}
 use Rattle.sq_pools.proofs.seats.Seats.put.Goals as goal
 
 pub returns-clause-ok : goal.returns-clause-ok

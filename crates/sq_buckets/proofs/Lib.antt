@@ -1,0 +1,4 @@
+pub mod BucketLaws
+mod LevelLaws
+pub mod MapLaws
+pub mod SpotLaws
