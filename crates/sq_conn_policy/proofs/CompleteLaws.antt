@@ -11,23 +11,23 @@ use Rattle.sq_head.specs.declared.faults.BadBody.{BadBody}
 use Rattle.sq_head.specs.declared.own.Own.TheVariants.{NotImplemented, NoMemory}
 use Rattle.sq_headers.specs.Access.{HeaderAccess}
 use Rattle.sq_outside.specs.Dials.{Dialled}
-use Rattle.sq_session.specs.Begins.{fits_hosts}
-use Rattle.sq_session.specs.Fronts.{FrontAnswer, OfOpen, OfDecide, OfRewrite, OfSit, OfClose, SitsFor}
-use Rattle.sq_session.specs.Sessions.{IsSession, IsStep, JudgesBegun, JudgesOf, ServesOpened, SessionStep, Turns, answers_of, turn_of, session_seen}
-use Rattle.sq_session.specs.Turns.{ClientTurn, Reply, NoOrigin, Came, access_of, allowed, asked, carried, denied, dialled, forwarded, is_connect, is_head, is_served, judged, recorded, redirected, rewritten_on, says, seated, turn}
-use Rattle.sq_session.specs.declared.beginning.Begun.{Begun}
-use Rattle.sq_session.specs.declared.beginning.Begun.TheVariants as begun
-use Rattle.sq_session.specs.declared.ends.End.{End}
-use Rattle.sq_session.specs.declared.front.Decided.TheVariants as decided
-use Rattle.sq_session.specs.declared.front.Opened.{Opened}
-use Rattle.sq_session.specs.declared.front.Opened.TheVariants as opened
-use Rattle.sq_session.specs.declared.front.Rewritten.TheVariants as rewritten
-use Rattle.sq_session.specs.declared.front.SitFault.TheVariants as sit
+use Rattle.sq_turns.specs.Begins.{fits_hosts}
+use Rattle.sq_turns.specs.Fronts.{FrontAnswer, OfOpen, OfDecide, OfRewrite, OfSit, OfClose, SitsFor}
+use Rattle.sq_turns.specs.Sessions.{IsSession, IsStep, JudgesBegun, JudgesOf, ServesOpened, SessionStep, Turns, answers_of, turn_of, session_seen}
+use Rattle.sq_turns.specs.Turns.{ClientTurn, Reply, NoOrigin, Came, access_of, allowed, asked, carried, denied, dialled, forwarded, is_connect, is_head, is_served, judged, recorded, redirected, rewritten_on, says, seated, turn}
+use Rattle.sq_turns.specs.declared.beginning.Begun.{Begun}
+use Rattle.sq_turns.specs.declared.beginning.Begun.TheVariants as begun
+use Rattle.sq_turns.specs.declared.ends.End.{End}
+use Rattle.sq_turns.specs.declared.front.Decided.TheVariants as decided
+use Rattle.sq_turns.specs.declared.front.Opened.{Opened}
+use Rattle.sq_turns.specs.declared.front.Opened.TheVariants as opened
+use Rattle.sq_turns.specs.declared.front.Rewritten.TheVariants as rewritten
+use Rattle.sq_turns.specs.declared.front.SitFault.TheVariants as sit
 use Rattle.sq_conn_policy.specs.Hubs.{Served}
 use Rattle.sq_conn_policy.specs.Completeness.{Completes, CompletesBegun, EachCompletes, GetsDenial, GetsRedirect, GetsUnserved, GetsReply, HasNoMemory, HasNone, is_unspent, sent_as}
 use Rattle.sq_conn_policy.specs.Pieces.{FrontStands, is_unrefused}
 use Rattle.sq_forward.specs.Exchanges.{message}
-use Rattle.sq_session.specs.Steps.{front_seen}
+use Rattle.sq_turns.specs.Steps.{front_seen}
 
 both_left : (a b : Bool) → (a && b) ≡ true → a ≡ true
 both_left true b e = refl

@@ -3,9 +3,9 @@ use Rattle.std.proofs.Common.{◌≡◌, ◌⊎◌, ℕ, ◌≤◌, Result, Ok, 
 use Rattle.sq_base.specs.Requests.{HttpRequest}
 use Rattle.sq_outside.specs.Causes.{raised}
 use Rattle.sq_machine.specs.declared.refusals.Refusal.TheVariants as refusal
-use Rattle.sq_session.specs.Fronts.{Decides, Asks, OpenRefuses, DecideRefuses}
-use Rattle.sq_session.specs.declared.front.Decided.{Decided}
-use Rattle.sq_session.specs.declared.front.Opened.{Opened}
+use Rattle.sq_turns.specs.Fronts.{Decides, Asks, OpenRefuses, DecideRefuses}
+use Rattle.sq_turns.specs.declared.front.Decided.{Decided}
+use Rattle.sq_turns.specs.declared.front.Opened.{Opened}
 use Rattle.sq_conn_policy.specs.Hubs.{IsRefusal, HubRefuses, IsFailure, HubFails, OpenFails, DecideFails, opened_of, decided_of}
 use Rattle.sq_conn_policy.specs.declared.hub.HubFault.{HubFault}
 use Rattle.sq_conn_policy.specs.declared.hub.HubFault.TheVariants.{Refused, JournalFault, WantOfMemory}

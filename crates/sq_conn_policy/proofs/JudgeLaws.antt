@@ -12,8 +12,8 @@ use Rattle.sq_machine.specs.declared.entries.Event.{Event}
 use Rattle.sq_machine.specs.declared.entries.Told.TheVariants as told
 use Rattle.sq_machine.specs.declared.refusals.Refusal.{Refusal}
 use Rattle.sq_machine.specs.declared.refusals.Refusal.TheVariants as refusal
-use Rattle.sq_session.specs.declared.front.Decided.{Decided}
-use Rattle.sq_session.specs.declared.front.Decided.TheVariants as decided
+use Rattle.sq_turns.specs.declared.front.Decided.{Decided}
+use Rattle.sq_turns.specs.declared.front.Decided.TheVariants as decided
 use Rattle.sq_conn_policy.specs.Hubs.{decided_of}
 use Rattle.sq_conn_policy.proofs.SpentLaws.{ask_spent, asked_open}
 use Rattle.sq_conn_policy.specs.Judging.{EndsSo, Finishes, FitsDecided, IsAttempt, IsOfGoing, IsOfQuestion, IsOwn, IsForLastNumber, Judges, RefusesLast, goes_on}

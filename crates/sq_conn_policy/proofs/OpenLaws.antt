@@ -3,9 +3,9 @@ use Rattle.std.proofs.Common.{◌≡◌, ℕ, Option, Ok, Err, sym, subst}
 use Rattle.sq_base.specs.Addresses.{Address}
 use Rattle.sq_machine.specs.declared.entries.Event.TheVariants as event
 use Rattle.sq_machine.specs.declared.refusals.Refusal.TheVariants as refusal
-use Rattle.sq_session.specs.declared.front.CloseFault.{CloseFault}
-use Rattle.sq_session.specs.declared.front.Opened.{Opened}
-use Rattle.sq_session.specs.declared.front.Opened.TheVariants as opened
+use Rattle.sq_turns.specs.declared.front.CloseFault.{CloseFault}
+use Rattle.sq_turns.specs.declared.front.Opened.{Opened}
+use Rattle.sq_turns.specs.declared.front.Opened.TheVariants as opened
 use Rattle.sq_conn_policy.specs.Hubs.{opened_of, unclosed_of}
 use Rattle.sq_conn_policy.specs.Judging.{Closes, ClosesBy, Opens, OpensBy}
 use Rattle.sq_conn_policy.specs.Tellings.{HubState, IsFine, IsNext, Makes, MakesOn, Tells, machine_now}

@@ -15,8 +15,8 @@ use Rattle.sq_rewrite.specs.States.{Refuses, RewriteState, after, after_calls, a
 use Rattle.sq_rewrite.specs.declared.faults.RewriteFault.{RewriteFault}
 use Rattle.sq_rewrite.specs.declared.faults.RewriteFault.TheVariants as fault
 use Rattle.sq_rewrite.specs.declared.rewritings.Rewriting.{Rewriting}
-use Rattle.sq_session.specs.declared.front.Rewritten.{Rewritten}
-use Rattle.sq_session.specs.declared.front.Rewritten.TheVariants as rewritten
+use Rattle.sq_turns.specs.declared.front.Rewritten.{Rewritten}
+use Rattle.sq_turns.specs.declared.front.Rewritten.TheVariants as rewritten
 use Rattle.sq_conn_policy.specs.Judging.{ComesTo, HadNoMemory, WasRefused, WasTaken, RewritesBy, RewritesFor, TakesAtLast, TakesLast, rewritten_of, unasked_of}
 use Rattle.sq_conn_policy.specs.Tellings.{HubState, Puts, PutsBy, SaysRewriter, StandsAt, TakesBy, TakesRewriting, Tells, Waited, Works, is_outside, puts_for}
 use Rattle.sq_conn_policy.proofs.TellLaws.{tells_as, tells_self, tells_then}

@@ -5,9 +5,9 @@ use Rattle.sq_machine.specs.SeatPlaces.{pool_at, seat_place}
 use Rattle.sq_machine.specs.declared.places.SeatPlace.{SeatPlace}
 use Rattle.sq_machine.specs.declared.places.SeatPlace.TheVariants.{Nowhere, ByAddress, ByTag}
 use Rattle.sq_pools.specs.declared.pools.ChooseFault.{ChooseFault}
-use Rattle.sq_session.specs.Fronts.{takes_seat}
-use Rattle.sq_session.specs.declared.front.SitFault.{SitFault}
-use Rattle.sq_session.specs.declared.front.SitFault.TheVariants as sit
+use Rattle.sq_turns.specs.Fronts.{takes_seat}
+use Rattle.sq_turns.specs.declared.front.SitFault.{SitFault}
+use Rattle.sq_turns.specs.declared.front.SitFault.TheVariants as sit
 use Rattle.sq_conn_policy.specs.Judging.{GrantsOn, Rises, Seats, SeatsAt, Sits, seat_of}
 use Rattle.sq_conn_policy.specs.Tellings.{Chooses, ChoosesTag, HubState, LeavesMachine, Tells}
 use Rattle.sq_pools.specs.declared.held_seats.HeldSeat.{HeldSeat}

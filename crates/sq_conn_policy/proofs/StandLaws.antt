@@ -12,16 +12,16 @@ use Rattle.sq_machine.specs.declared.entries.Event.TheVariants as event
 use Rattle.sq_machine.specs.declared.entries.Told.TheVariants as told
 use Rattle.sq_outside.specs.Causes.{Rose}
 use Rattle.sq_machine.specs.declared.refusals.Refusal.TheVariants as refusal
-use Rattle.sq_session.specs.Fronts.{FrontAnswer, OfOpen, OfDecide, OfRewrite, OfSit, OfClose, OpenRefuses, DecideRefuses, CloseRefuses}
-use Rattle.sq_session.specs.declared.front.CloseFault.{CloseFault}
-use Rattle.sq_session.specs.declared.front.CloseFault.TheVariants as close
-use Rattle.sq_session.specs.declared.front.Decided.{Decided}
-use Rattle.sq_session.specs.declared.front.Decided.TheVariants as decided
-use Rattle.sq_session.specs.declared.front.Opened.{Opened}
-use Rattle.sq_session.specs.declared.front.Opened.TheVariants as opened
-use Rattle.sq_session.specs.declared.front.SitFault.{SitFault}
-use Rattle.sq_session.specs.declared.front.Rewritten.{Rewritten}
-use Rattle.sq_session.specs.declared.front.Rewritten.TheVariants as rewritten
+use Rattle.sq_turns.specs.Fronts.{FrontAnswer, OfOpen, OfDecide, OfRewrite, OfSit, OfClose, OpenRefuses, DecideRefuses, CloseRefuses}
+use Rattle.sq_turns.specs.declared.front.CloseFault.{CloseFault}
+use Rattle.sq_turns.specs.declared.front.CloseFault.TheVariants as close
+use Rattle.sq_turns.specs.declared.front.Decided.{Decided}
+use Rattle.sq_turns.specs.declared.front.Decided.TheVariants as decided
+use Rattle.sq_turns.specs.declared.front.Opened.{Opened}
+use Rattle.sq_turns.specs.declared.front.Opened.TheVariants as opened
+use Rattle.sq_turns.specs.declared.front.SitFault.{SitFault}
+use Rattle.sq_turns.specs.declared.front.Rewritten.{Rewritten}
+use Rattle.sq_turns.specs.declared.front.Rewritten.TheVariants as rewritten
 use Rattle.sq_model.specs.States.{IsSame}
 use Rattle.sq_rewrite.proofs.WorkLaws.{runs_more, state_more}
 use Rattle.sq_rewrite.specs.Calls.{Calls}

@@ -6,17 +6,17 @@ use Rattle.sq_base.specs.declared.plans.BodyPlan.{BodyPlan}
 use Rattle.sq_checks.specs.Records.{Judged}
 use Rattle.sq_head.specs.BodyPlans.{request_plan}
 use Rattle.sq_head.specs.declared.own.Own.TheVariants.{NotImplemented, NoMemory}
-use Rattle.sq_session.specs.Begins.{fits_hosts}
-use Rattle.sq_session.specs.Fronts.{FrontAnswer, OfOpen, OfDecide, OfRewrite, OfSit, OfClose}
-use Rattle.sq_session.specs.Sessions.{SessionStep, turn_of}
-use Rattle.sq_session.specs.Turns.{ClientTurn, Reply, access_of, denied, dialled, is_connect, is_head, is_served, redirected, says, silent}
-use Rattle.sq_session.specs.declared.beginning.Begun.{Begun}
-use Rattle.sq_session.specs.declared.beginning.Begun.TheVariants as begun
-use Rattle.sq_session.specs.declared.ends.Carried.TheVariants.{Over}
-use Rattle.sq_session.specs.declared.ends.End.TheVariants as end
-use Rattle.sq_session.specs.declared.front.Decided.TheVariants as decided
-use Rattle.sq_session.specs.declared.front.Rewritten.TheVariants as rewritten
-use Rattle.sq_session.specs.declared.front.SitFault.TheVariants as sit
+use Rattle.sq_turns.specs.Begins.{fits_hosts}
+use Rattle.sq_turns.specs.Fronts.{FrontAnswer, OfOpen, OfDecide, OfRewrite, OfSit, OfClose}
+use Rattle.sq_turns.specs.Sessions.{SessionStep, turn_of}
+use Rattle.sq_turns.specs.Turns.{ClientTurn, Reply, access_of, denied, dialled, is_connect, is_head, is_served, redirected, says, silent}
+use Rattle.sq_turns.specs.declared.beginning.Begun.{Begun}
+use Rattle.sq_turns.specs.declared.beginning.Begun.TheVariants as begun
+use Rattle.sq_turns.specs.declared.ends.Carried.TheVariants.{Over}
+use Rattle.sq_turns.specs.declared.ends.End.TheVariants as end
+use Rattle.sq_turns.specs.declared.front.Decided.TheVariants as decided
+use Rattle.sq_turns.specs.declared.front.Rewritten.TheVariants as rewritten
+use Rattle.sq_turns.specs.declared.front.SitFault.TheVariants as sit
 
 -- the numbers of seats are not used up
 abbrev pub is_unspent : FrontAnswer → Bool

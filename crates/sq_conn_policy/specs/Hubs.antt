@@ -4,12 +4,12 @@ use Rattle.std.specs.declared.option.Option.{Option}
 use Rattle.std.specs.declared.result.Result.{Result}
 use Rattle.sq_outside.specs.Causes.{Rose, count_limit, raised}
 use Rattle.sq_machine.specs.declared.refusals.Refusal.TheVariants as refusal
-use Rattle.sq_session.specs.declared.front.CloseFault.{CloseFault}
-use Rattle.sq_session.specs.declared.front.CloseFault.TheVariants as close
-use Rattle.sq_session.specs.declared.front.Decided.{Decided}
-use Rattle.sq_session.specs.declared.front.Decided.TheVariants as decided
-use Rattle.sq_session.specs.declared.front.Opened.{Opened}
-use Rattle.sq_session.specs.declared.front.Opened.TheVariants as opened
+use Rattle.sq_turns.specs.declared.front.CloseFault.{CloseFault}
+use Rattle.sq_turns.specs.declared.front.CloseFault.TheVariants as close
+use Rattle.sq_turns.specs.declared.front.Decided.{Decided}
+use Rattle.sq_turns.specs.declared.front.Decided.TheVariants as decided
+use Rattle.sq_turns.specs.declared.front.Opened.{Opened}
+use Rattle.sq_turns.specs.declared.front.Opened.TheVariants as opened
 use Rattle.sq_model.specs.States.{State}
 use Rattle.sq_rewrite.specs.States.{RewriteState}
 use Rattle.sq_conn_policy.specs.declared.hub.HubFault.{HubFault}

@@ -30,16 +30,16 @@ use Rattle.sq_rewrite.specs.declared.rewritings.Rewriting.{Rewriting}
 use Rattle.sq_rewrite.specs.declared.rewritings.Rewriting.TheVariants as rewriting
 use Rattle.sq_pools.specs.declared.pools.ChooseFault.{ChooseFault}
 use Rattle.sq_pools.specs.declared.pools.ChooseFault.TheVariants as choose
-use Rattle.sq_session.specs.declared.front.CloseFault.{CloseFault}
-use Rattle.sq_session.specs.declared.front.CloseFault.TheVariants as close
-use Rattle.sq_session.specs.declared.front.Decided.{Decided}
-use Rattle.sq_session.specs.declared.front.Decided.TheVariants as decided
-use Rattle.sq_session.specs.declared.front.Opened.{Opened}
-use Rattle.sq_session.specs.declared.front.Opened.TheVariants as opened
-use Rattle.sq_session.specs.declared.front.Rewritten.{Rewritten}
-use Rattle.sq_session.specs.declared.front.Rewritten.TheVariants as rewritten
-use Rattle.sq_session.specs.declared.front.SitFault.{SitFault}
-use Rattle.sq_session.specs.declared.front.SitFault.TheVariants as sit
+use Rattle.sq_turns.specs.declared.front.CloseFault.{CloseFault}
+use Rattle.sq_turns.specs.declared.front.CloseFault.TheVariants as close
+use Rattle.sq_turns.specs.declared.front.Decided.{Decided}
+use Rattle.sq_turns.specs.declared.front.Decided.TheVariants as decided
+use Rattle.sq_turns.specs.declared.front.Opened.{Opened}
+use Rattle.sq_turns.specs.declared.front.Opened.TheVariants as opened
+use Rattle.sq_turns.specs.declared.front.Rewritten.{Rewritten}
+use Rattle.sq_turns.specs.declared.front.Rewritten.TheVariants as rewritten
+use Rattle.sq_turns.specs.declared.front.SitFault.{SitFault}
+use Rattle.sq_turns.specs.declared.front.SitFault.TheVariants as sit
 use Rattle.sq_model.specs.States.{IsSame, State}
 use Rattle.sq_conn_policy.specs.Tellings.{AreKept, Chooses, ChoosesTag, Grants, GrantsTag, HubState, IsNext, IsOfCheck, IsRefused, Leaves, LeavesTag, StandsAt, Works, asks_for, is_outside, machine_now, puts_for}
 use Rattle.sq_conn_policy.specs.declared.hub.HubFault.{HubFault}

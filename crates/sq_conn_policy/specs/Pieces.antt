@@ -14,16 +14,16 @@ use Rattle.sq_base.specs.Requests.{HttpRequest}
 use Rattle.sq_rewrite.specs.Calls.{Calls}
 use Rattle.sq_rewrite.specs.States.{IsRun, RewriteState, is_of_processes, state_of}
 use Rattle.sq_rules.specs.Classes.{Class}
-use Rattle.sq_session.specs.Fronts.{FrontAnswer, OfOpen, OfDecide, OfRewrite, OfSit, OfClose}
-use Rattle.sq_session.specs.declared.front.CloseFault.{CloseFault}
-use Rattle.sq_session.specs.declared.front.CloseFault.TheVariants as close
-use Rattle.sq_session.specs.declared.front.Decided.{Decided}
-use Rattle.sq_session.specs.declared.front.Decided.TheVariants as decided
-use Rattle.sq_session.specs.declared.front.Rewritten.{Rewritten}
-use Rattle.sq_session.specs.declared.front.Rewritten.TheVariants as rewritten
+use Rattle.sq_turns.specs.Fronts.{FrontAnswer, OfOpen, OfDecide, OfRewrite, OfSit, OfClose}
+use Rattle.sq_turns.specs.declared.front.CloseFault.{CloseFault}
+use Rattle.sq_turns.specs.declared.front.CloseFault.TheVariants as close
+use Rattle.sq_turns.specs.declared.front.Decided.{Decided}
+use Rattle.sq_turns.specs.declared.front.Decided.TheVariants as decided
+use Rattle.sq_turns.specs.declared.front.Rewritten.{Rewritten}
+use Rattle.sq_turns.specs.declared.front.Rewritten.TheVariants as rewritten
 use Rattle.sq_checks.specs.Records.{Judged}
-use Rattle.sq_session.specs.declared.front.Opened.{Opened}
-use Rattle.sq_session.specs.declared.front.Opened.TheVariants as opened
+use Rattle.sq_turns.specs.declared.front.Opened.{Opened}
+use Rattle.sq_turns.specs.declared.front.Opened.TheVariants as opened
 use Rattle.sq_conn_policy.specs.Hubs.{Served}
 use Rattle.sq_conn_policy.specs.Judging.{IsAttempt, IsDecision, IsRewriting}
 use Rattle.sq_conn_policy.specs.Tellings.{HubState, StandsAt, is_outside}

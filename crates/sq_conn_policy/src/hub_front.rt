@@ -15,7 +15,7 @@ use sq_forward::Meter;
 use sq_machine::Refusal;
 use sq_outside::COUNT_LIMIT;
 use sq_pools::HeldSeat;
-use sq_session::{CloseFault, Counts, Decided, Front, Opened, Rewritten, SitFault};
+use sq_turns::{CloseFault, Counts, Decided, Front, Opened, Rewritten, SitFault};
 use std::alloc::Global;
 use std::sync::Wait;
 
@@ -146,7 +146,7 @@ impl<'a, R: Wait, H: Hub + Drop> Meter for HubFront<'a, R, H> {
 impl<'a, R: Wait, H: Hub + Drop> Front for HubFront<'a, R, H> {
     ghost use Rattle.std.proofs.Common.{ap, subst};
     ghost use Rattle.std.specs.Prelude.{List, ◌∷◌, ◌++◌, [], OnOk, OnErr};
-    ghost use Rattle.sq_session.specs.Fronts.{FrontAnswer, OfOpen, OfDecide, OfRewrite, OfSit, OfClose, Decides, Rewrites, Asks, OpenRefuses, DecideRefuses, CloseRefuses, takes_seat};
+    ghost use Rattle.sq_turns.specs.Fronts.{FrontAnswer, OfOpen, OfDecide, OfRewrite, OfSit, OfClose, Decides, Rewrites, Asks, OpenRefuses, DecideRefuses, CloseRefuses, takes_seat};
     ghost use Rattle.sq_conn_policy.specs.Hubs.{Counted};
     ghost use Rattle.sq_conn_policy.specs.Judging.{Closes, Judges, Opens, RewritesFor, Rises, Sits};
     ghost use Rattle.sq_conn_policy.specs.Pieces.{FrontStands, served_told};

@@ -1,8 +1,8 @@
 //! A question about a request, to its end.
 ghost use Rattle.std.specs.Prelude.{◌≡◌, ℕ, ◌≤◌};
 ghost use Rattle.sq_outside.specs.Causes.{raised};
-ghost use Rattle.sq_session.specs.Fronts.{Decides, Asks, DecideRefuses};
-ghost use Rattle.sq_session.specs.declared.front.Decided.TheVariants as decided;
+ghost use Rattle.sq_turns.specs.Fronts.{Decides, Asks, DecideRefuses};
+ghost use Rattle.sq_turns.specs.declared.front.Decided.TheVariants as decided;
 ghost use Rattle.sq_conn_policy.specs.Hubs.{HubRefuses, HubFails, DecideFails, decided_of};
 ghost use Rattle.sq_conn_policy.specs.Judging.{Finishes, Judges};
 ghost use Rattle.sq_conn_policy.specs.Tellings.{Tells};
@@ -13,7 +13,7 @@ use sq_base::{CheckNo, ConnNo, Copying, Request, WantOfMemory};
 use sq_checks::Record;
 use sq_machine::Refusal;
 use sq_model::Stepped;
-use sq_session::Decided;
+use sq_turns::Decided;
 use std::alloc::Global;
 use std::sync::Wait;
 

@@ -2,7 +2,7 @@
 ghost use Rattle.std.specs.Prelude.{◌≡◌, ◌≤◌};
 ghost use Rattle.std.specs.Bool.{Decides};
 ghost use Rattle.sq_base.specs.Requests.{HttpRequest};
-ghost use Rattle.sq_session.specs.Fronts.{Rewrites};
+ghost use Rattle.sq_turns.specs.Fronts.{Rewrites};
 ghost use Rattle.sq_rewrite.specs.Rewritings.{IsInPlaceOf, MayBecome};
 ghost use Rattle.sq_conn_policy.specs.Judging.{RewritesFor, TakesAtLast, rewritten_of, unasked_of};
 ghost use Rattle.sq_conn_policy.specs.Tellings.{Tells};
@@ -12,7 +12,7 @@ use crate::same::{same_fields, same_text};
 use sq_base::{QuestionNo, Request};
 use sq_checks::Record;
 use sq_rewrite::{RewriteFault, Rewriting, is_redirect};
-use sq_session::Rewritten;
+use sq_turns::Rewritten;
 use std::alloc::Global;
 use std::sync::Wait;
 

@@ -1,7 +1,7 @@
 //! The seat of one connection: which one a record takes, what is granted on it, and that it is given back.
 ghost use Rattle.std.specs.Prelude.{◌≡◌, ◌≤◌, false, is_some, Some, IfOk};
 ghost use Rattle.sq_forward.specs.Meters.{granted_after};
-ghost use Rattle.sq_session.specs.Fronts.{takes_seat};
+ghost use Rattle.sq_turns.specs.Fronts.{takes_seat};
 ghost use Rattle.sq_conn_policy.specs.Judging.{GrantsOn, Rises, Seats, unseated_of};
 ghost use Rattle.sq_conn_policy.specs.Tellings.{Tells};
 
@@ -9,7 +9,7 @@ use crate::hub::Hub;
 use sq_checks::Record;
 use sq_machine::SeatPlace;
 use sq_pools::{ChooseFault, HeldSeat};
-use sq_session::SitFault;
+use sq_turns::SitFault;
 use std::alloc::Global;
 
 /// Takes the seat of a record, if it takes one. It takes memory for a tag where its pool has buckets by tags.

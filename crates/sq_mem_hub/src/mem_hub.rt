@@ -22,7 +22,7 @@ use sq_outside::{raised, raised_by};
 use sq_pools::{ChooseFault, Pools, Seat, TagPools, TagSeat};
 use sq_rewrite::{RewriteFault, Rewriter, Rewriting};
 use sq_rules::{Class, Config};
-use sq_session::Counts;
+use sq_turns::Counts;
 use sq_urlmatch::Setup;
 use std::alloc::Global;
 use std::sync::{Arc, Wait};

@@ -1,10 +1,2 @@
-mod BeginLaws
-mod CarryLaws
-mod ForwardLaws
-mod GoesLaws
-mod PartLaws
 mod ServeLaws
 mod SessionLaws
-mod OwnReplyLaws
-mod TurnLaws
-mod VerdictLaws

@@ -9,14 +9,14 @@ use Rattle.sq_base.specs.Addresses.{Address}
 use Rattle.sq_outside.specs.Causes.{count_limit}
 use Rattle.sq_outside.specs.Dials.{Dialled}
 use Rattle.sq_forward.specs.Meters.{granted_after}
-use Rattle.sq_session.specs.Fronts.{FrontAnswer}
-use Rattle.sq_session.specs.Sessions.{SessionStep, IsStep, TakesTurn, Turns, EndsSession, answers_of, client_of, dials_of, granted_of, HasFaulted, DialsAll, turn_of, session_seen}
-use Rattle.sq_session.specs.Steps.{DialsOn, WasTold, turn_seen, front_seen}
-use Rattle.sq_session.specs.Told.{TurnTold, ServesTold}
-use Rattle.sq_session.specs.declared.ends.Carried.{Carried}
-use Rattle.sq_session.specs.declared.ends.Carried.TheVariants.{Stays}
-use Rattle.sq_session.specs.declared.ends.End.{End}
-use Rattle.sq_session.proofs.GoesLaws.{granted_none}
+use Rattle.sq_turns.specs.Fronts.{FrontAnswer}
+use Rattle.sq_turns.specs.Sessions.{SessionStep, IsStep, TakesTurn, Turns, EndsSession, answers_of, client_of, dials_of, granted_of, HasFaulted, DialsAll, turn_of, session_seen}
+use Rattle.sq_turns.specs.Steps.{DialsOn, WasTold, turn_seen, front_seen}
+use Rattle.sq_turns.specs.Told.{TurnTold, ServesTold}
+use Rattle.sq_turns.specs.declared.ends.Carried.{Carried}
+use Rattle.sq_turns.specs.declared.ends.Carried.TheVariants.{Stays}
+use Rattle.sq_turns.specs.declared.ends.End.{End}
+use Rattle.sq_turns.proofs.GoesLaws.{granted_none}
 
 -- some turns were taken, and the connection stays
 pub record Served (addr : Address) (input : List ℕ) (stood stands : List FrontAnswer → Type 0)

@@ -7,21 +7,21 @@ use Rattle.sq_head.specs.OwnReplies.{error_text}
 use Rattle.sq_head.specs.declared.own.Own.{Own}
 use Rattle.sq_head.specs.declared.own.Own.TheVariants.{Inner, Stopped, NoMemory, TooManyConns}
 use Rattle.sq_forward.specs.Meters.{granted_after}
-use Rattle.sq_session.specs.Fronts.{FrontAnswer, OfOpen, OfClose}
-use Rattle.sq_session.specs.Sessions.{answers_of, client_of, granted_of, ServesOpened, ClosesOpened, TellsWhole, TellsAs, SessionHasCause, dry_after_session, session_seen}
-use Rattle.sq_session.specs.Steps.{EndHasCause, dry_after, front_seen}
-use Rattle.sq_session.specs.Told.{ServesTold, SessionTold}
-use Rattle.sq_session.specs.Verdicts.{refusal_of}
-use Rattle.sq_session.specs.Written.{WritesReply}
-use Rattle.sq_session.specs.declared.ends.Carried.{Carried}
-use Rattle.sq_session.specs.declared.ends.Carried.TheVariants.{Stays, Closes, Over}
-use Rattle.sq_session.specs.declared.ends.End.{End}
-use Rattle.sq_session.specs.declared.ends.End.TheVariants.{Finished, Cut, ClientFault, OriginCut, OriginFault, Starved, WantOfMemory}
-use Rattle.sq_session.specs.declared.front.CloseFault.{CloseFault}
-use Rattle.sq_session.specs.declared.front.Opened.{Opened}
-use Rattle.sq_session.specs.declared.front.Opened.TheVariants as opened
-use Rattle.sq_session.proofs.CarryLaws.{rose_later}
-use Rattle.sq_session.proofs.GoesLaws.{granted_none}
+use Rattle.sq_turns.specs.Fronts.{FrontAnswer, OfOpen, OfClose}
+use Rattle.sq_turns.specs.Sessions.{answers_of, client_of, granted_of, ServesOpened, ClosesOpened, TellsWhole, TellsAs, SessionHasCause, dry_after_session, session_seen}
+use Rattle.sq_turns.specs.Steps.{EndHasCause, dry_after, front_seen}
+use Rattle.sq_turns.specs.Told.{ServesTold, SessionTold}
+use Rattle.sq_turns.specs.Verdicts.{refusal_of}
+use Rattle.sq_turns.specs.Written.{WritesReply}
+use Rattle.sq_turns.specs.declared.ends.Carried.{Carried}
+use Rattle.sq_turns.specs.declared.ends.Carried.TheVariants.{Stays, Closes, Over}
+use Rattle.sq_turns.specs.declared.ends.End.{End}
+use Rattle.sq_turns.specs.declared.ends.End.TheVariants.{Finished, Cut, ClientFault, OriginCut, OriginFault, Starved, WantOfMemory}
+use Rattle.sq_turns.specs.declared.front.CloseFault.{CloseFault}
+use Rattle.sq_turns.specs.declared.front.Opened.{Opened}
+use Rattle.sq_turns.specs.declared.front.Opened.TheVariants as opened
+use Rattle.sq_turns.proofs.CarryLaws.{rose_later}
+use Rattle.sq_turns.proofs.GoesLaws.{granted_none}
 
 -- the cause of the last turn's end, for the whole session
 pub over_cause : (a b c i j k x y z : ℕ) (end : End) → a ≤ b → i ≤ j → x ≤ y

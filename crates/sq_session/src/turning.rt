@@ -4,20 +4,17 @@ ghost use Rattle.sq_outside.specs.Causes.{Rose};
 ghost use Rattle.sq_outside.specs.Dials.{CallsOnce};
 ghost use Rattle.sq_forward.specs.Halves.{to_come};
 ghost use Rattle.sq_head.specs.BodyPlans.{request_plan};
-ghost use Rattle.sq_session.specs.Steps.{EndHasCause, WasTold, dry_after, turn_seen, front_seen};
-ghost use Rattle.sq_session.specs.Told.{TurnTold, AnswersTold, ObeysTold};
+ghost use Rattle.sq_turns.specs.Steps.{EndHasCause, WasTold, dry_after, turn_seen, front_seen};
+ghost use Rattle.sq_turns.specs.Told.{TurnTold, AnswersTold, ObeysTold};
 ghost use Rattle.sq_forward.specs.Exchanges.{message};
 
-use crate::beginning::{Heard, heard_of, next_request};
-use crate::ends::Carried;
-use crate::front::Front;
-use crate::judged::JudgedRequest;
-use crate::own_replies::{denied_closes, deny, is_head, say};
-use crate::rewriting::go_on;
-use crate::verdicts::verdict;
 use sq_base::{Addr, Request};
 use sq_forward::{Duplex, Ends, Meter};
 use sq_outside::Dialer;
+use sq_turns::{
+    Carried, Front, Heard, JudgedRequest, denied_closes, deny, go_on, heard_of, is_head,
+    next_request, say, verdict,
+};
 use std::alloc::Global;
 use std::sync::Wait;
 use std::thread::Threads;

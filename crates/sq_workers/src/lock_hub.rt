@@ -12,11 +12,11 @@ use sq_outside::{Clock, raised, raised_by};
 use sq_pools::{ChooseFault, Seat, TagSeat};
 use sq_rewrite::{RewriteFault, Rewriting};
 use sq_rules::Config;
-use sq_session::Counts;
 use sq_shared::{
     Asks, Bank, Grants, Ledgers, Refusals, RewriterRoom, Room, holds, number_told, wait_answered,
     wake_after_step, wake_if_stopped,
 };
+use sq_turns::Counts;
 use std::alloc::Global;
 use std::sync::ledger::Share;
 use std::sync::{Arc, Mutex, Wait};

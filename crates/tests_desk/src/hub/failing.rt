@@ -8,7 +8,7 @@ use sq_model::Stepped;
 use sq_pools::{ChooseFault, Seat, TagSeat};
 use sq_rewrite::{RewriteFault, Rewriting};
 use sq_rules::Config;
-use sq_session::Counts;
+use sq_turns::Counts;
 use std::alloc::Global;
 use std::sync::Arc;
 

@@ -3,7 +3,7 @@ use crate::hub::running::Place::{self, ClientRead, ClientWrite, Dial, OriginRead
 use crate::hub::running::{Fault, Links, run_over};
 use End::{ClientFault, Finished, OriginFault, Starved};
 use sq_base::Text;
-use sq_session::End;
+use sq_turns::End;
 use std::alloc::Global;
 use std::process::Abort;
 use std::sync::Wait;

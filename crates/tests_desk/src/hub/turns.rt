@@ -1,7 +1,8 @@
 //! What a client gets where a call of its session's hub fails.
 use crate::hub::running::run;
 use sq_base::{Text, number_of};
-use sq_session::{End, SessionEnd};
+use sq_session::SessionEnd;
+use sq_turns::End;
 use std::alloc::Global;
 use std::process::Abort;
 

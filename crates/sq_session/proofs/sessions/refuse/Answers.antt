@@ -1,6 +1,6 @@
 use Rattle.std.proofs.Common.{refl, sym, ◌∙◌}
-use Rattle.sq_session.specs.declared.ends.Carried.TheVariants.{Stays, Closes, Over}
-use Rattle.sq_session.specs.declared.ends.End.TheVariants.{Finished}
+use Rattle.sq_turns.specs.declared.ends.Carried.TheVariants.{Stays, Closes, Over}
+use Rattle.sq_turns.specs.declared.ends.End.TheVariants.{Finished}
 use Rattle.sq_session.proofs.SessionLaws.{tells_end, refuse_cause, over_dry}
 use Rattle.sq_session.proofs.sessions.refuse.Goals as goal
 

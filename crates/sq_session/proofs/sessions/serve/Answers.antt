@@ -1,6 +1,6 @@
 use Rattle.std.proofs.Common.{refl, ◌∙◌, arith}
-use Rattle.sq_session.specs.declared.ends.Carried.TheVariants.{Closes, Over}
-use Rattle.sq_session.proofs.CarryLaws.{rose_later, rose_earlier}
+use Rattle.sq_turns.specs.declared.ends.Carried.TheVariants.{Closes, Over}
+use Rattle.sq_turns.proofs.CarryLaws.{rose_later, rose_earlier}
 use Rattle.sq_session.proofs.ServeLaws.{serves_none, serves_more, serves_last}
 use Rattle.sq_session.proofs.SessionLaws.{over_cause, over_dry}
 use Rattle.sq_session.proofs.sessions.serve.Goals as goal

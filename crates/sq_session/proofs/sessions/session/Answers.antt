@@ -1,4 +1,4 @@
-use Rattle.sq_session.proofs.CarryLaws.{right_earlier}
+use Rattle.sq_turns.proofs.CarryLaws.{right_earlier}
 use Rattle.sq_session.proofs.SessionLaws.{session_closed, session_cause}
 use Rattle.sq_session.proofs.sessions.session.Goals as goal
 

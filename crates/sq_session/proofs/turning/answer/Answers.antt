@@ -1,7 +1,7 @@
 use Rattle.std.proofs.Common.{refl, inl}
-use Rattle.sq_session.proofs.CarryLaws.{answers_own, answers_judged, cause_client}
-use Rattle.sq_session.proofs.GoesLaws.{was_told}
-use Rattle.sq_session.proofs.OwnReplyLaws.{tells_as}
+use Rattle.sq_turns.proofs.CarryLaws.{answers_own, answers_judged, cause_client}
+use Rattle.sq_turns.proofs.GoesLaws.{was_told}
+use Rattle.sq_turns.proofs.OwnReplyLaws.{tells_as}
 use Rattle.sq_session.proofs.turning.answer.Goals as goal
 
 pub returns-in-Ok-clause-told : goal.returns-in-Ok-clause-told

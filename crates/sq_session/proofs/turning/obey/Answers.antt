@@ -1,9 +1,9 @@
 use Rattle.std.proofs.Common.{refl, sym, ap, ◌∙◌, inl}
 use Rattle.sq_rules.specs.declared.outcomes.Outcome.{Outcome}
 use Rattle.sq_head.specs.OwnReplies.{denial}
-use Rattle.sq_session.proofs.CarryLaws.{obeys_denied, cause_client}
-use Rattle.sq_session.proofs.GoesLaws.{was_told}
-use Rattle.sq_session.proofs.OwnReplyLaws.{tells_same}
+use Rattle.sq_turns.proofs.CarryLaws.{obeys_denied, cause_client}
+use Rattle.sq_turns.proofs.GoesLaws.{was_told}
+use Rattle.sq_turns.proofs.OwnReplyLaws.{tells_same}
 use Rattle.sq_session.proofs.turning.obey.Goals as goal
 
 pub returns-else-outcome-clause-told : goal.returns-else-outcome-clause-told

@@ -1,9 +1,9 @@
 use Rattle.std.proofs.Common.{inl, refl, subst, sym, ◌∙◌}
-use Rattle.sq_session.specs.Told.{BeginsTold}
-use Rattle.sq_session.proofs.CarryLaws.{cause_client, cause_later}
-use Rattle.sq_session.proofs.GoesLaws.{was_told}
-use Rattle.sq_session.proofs.TurnLaws.{takes_request, takes_own, takes_none}
-use Rattle.sq_session.proofs.VerdictLaws.{asks_heard, refused_turn, silent_cause, silent_ends}
+use Rattle.sq_turns.specs.Told.{BeginsTold}
+use Rattle.sq_turns.proofs.CarryLaws.{cause_client, cause_later}
+use Rattle.sq_turns.proofs.GoesLaws.{was_told}
+use Rattle.sq_turns.proofs.TurnLaws.{takes_request, takes_own, takes_none}
+use Rattle.sq_turns.proofs.VerdictLaws.{asks_heard, refused_turn, silent_cause, silent_ends}
 use Rattle.sq_session.proofs.turning.turn.Goals as goal
 
 pub returns-in-Asks-clause-told : goal.returns-in-Asks-clause-told

@@ -1,5 +1,5 @@
 use Rattle.std.proofs.Common.{Ok, Err, sym, subst}
-use Rattle.sq_session.specs.Fronts.{CloseRefuses}
+use Rattle.sq_turns.specs.Fronts.{CloseRefuses}
 use Rattle.sq_conn_policy.proofs.OpenLaws.{tells_closed, tells_unclosed}
 use Rattle.sq_conn_policy.proofs.StandLaws.{stands_close, close_refuses}
 use Rattle.sq_conn_policy.proofs.hub_front.HubFrontFront.close.Goals as goal

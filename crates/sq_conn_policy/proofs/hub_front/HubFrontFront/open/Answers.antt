@@ -1,6 +1,6 @@
 use Rattle.std.proofs.Common.{sym, subst}
-use Rattle.sq_session.specs.Fronts.{OpenRefuses}
-use Rattle.sq_session.specs.declared.front.Opened.TheVariants as opened
+use Rattle.sq_turns.specs.Fronts.{OpenRefuses}
+use Rattle.sq_turns.specs.declared.front.Opened.TheVariants as opened
 use Rattle.sq_conn_policy.proofs.OpenLaws.{tells_in, tells_unopened}
 use Rattle.sq_conn_policy.proofs.StandLaws.{stands_open, open_refuses}
 use Rattle.sq_conn_policy.proofs.hub_front.HubFrontFront.open.Goals as goal
