@@ -4,9 +4,10 @@ ghost use Rattle.std.specs.Option.{ForSome, option_map};
 ghost use Rattle.std.specs.Thread.{IsSend};
 ghost use Rattle.sq_outside.specs.Causes.{count_limit};
 ghost use Rattle.sq_shared.specs.Books.{asks_in};
-ghost use Rattle.sq_shared.specs.Granting.{granted_together};
+ghost use Rattle.sq_bank.specs.Granting.{granted_together};
 ghost use Rattle.sq_machine.specs.Readings.{current};
 
+use sq_bank::Bank;
 use sq_base::Texts;
 use sq_calls::DeskCalls;
 use sq_control::{ListenerMonitor, Panel, PanelEnd};
@@ -14,9 +15,10 @@ use sq_helper_threads::{KeeperParts, PumpParts, PumpTools, Shelf, pump_all};
 use sq_outside::{Another, Clock, Listener, Spawner, Stopper};
 use sq_pools::{Pools, TagPools};
 use sq_rewrite_pump::{RewriterShelf, rewrite_all};
+use sq_rewriter_hall::RewriterRoom;
 use sq_shared::{
-    Asks, Bank, Door, Grants, Hall, HelperTypes, Ledgers, Makes, NetTypes, Refusals, RewriterRoom,
-    Room, WorkerTypes, has_failed, set_done,
+    Asks, Door, Grants, Hall, HelperTypes, Ledgers, Makes, NetTypes, Refusals, Room, WorkerTypes,
+    has_failed, set_done,
 };
 use sq_workers::{SessionRooms, Shares, Sums, WorkerTools, work_all};
 use std::alloc::Global;

@@ -1,3 +1,2 @@
 mod BookLaws
-mod GrantLaws
 mod ShareLaws

@@ -1,18 +1,14 @@
-//! What the threads of a server share, each value behind a lock of its own.
+//! What the threads of a server share round its desk, each value behind a lock of its own.
 //!
 //! `Ledgers` names the ledgers of a server's four books by one type, and `NetTypes` the types of an opened net's parts. `Hall` is
 //! the desk with the books of its requests, reconfigurations and refusals; `Door` is the listener with the word whether it
-//! failed; `Bank` is the delay pools of both kinds with the book of their grants: what they granted together is what the book
-//! counts, or 2^127 where that is less; `RewriterHall` is the rewriter of requests. Their methods say what a call does to the
-//! value and to the shares that are handed in, and their types keep what their books count. `Room` is the desk's lock;
-//! `LockDesk` is the desk behind it, as a thread of helper processes sees it, and `ControlDesk` as the control does.
-//! `RewriterRoom` is the rewriter's lock. The lines that take a lock stand in `holds`, which sessions call, `lock_desk`,
-//! `control_desk`, `door_holds`, `bank_holds`, `waits` and `rewriter_room`.
+//! failed. Their methods say what a call does to the value and to the shares that are handed in, and their types keep what
+//! their books count. `Room` is the desk's lock; `LockDesk` is the desk behind it, as a thread of helper processes sees it,
+//! and `ControlDesk` as the control does. The lines that take a lock stand in `holds`, which sessions call, `lock_desk`,
+//! `control_desk`, `door_holds` and `waits`.
 #![tactic(auto)]
 
 mod awaited;
-mod bank;
-mod bank_holds;
 mod control_desk;
 mod counting;
 mod door;
@@ -24,17 +20,9 @@ mod ledgers;
 mod lock_desk;
 mod net_types;
 mod older;
-mod rewriter_hall;
-mod rewriter_room;
 mod room;
-mod turns;
 mod waits;
 
-pub use bank::Bank;
-pub use bank_holds::{
-    choose, choose_tag, gains_at, grant, grant_tag, leave, leave_tag, renew, renew_tags,
-    tag_gains_at,
-};
 pub use control_desk::ControlDesk;
 pub use door::Door;
 pub use door_holds::{accept, has_failed};
@@ -42,8 +30,6 @@ pub use hall::Hall;
 pub use ledgers::{Asks, Grants, Ledgers, Makes, Refusals};
 pub use lock_desk::LockDesk;
 pub use net_types::{HelperTypes, NetTypes, WorkerTypes};
-pub use rewriter_hall::RewriterHall;
-pub use rewriter_room::RewriterRoom;
 pub use room::Room;
 pub use waits::{
     changes, is_awaited, is_stopped, number_told, set_done, tell_end, wait_answered, wait_due,

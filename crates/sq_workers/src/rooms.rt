@@ -1,6 +1,8 @@
 //! What the sessions of workers share.
+use sq_bank::Bank;
 use sq_calls::DeskCalls;
-use sq_shared::{Bank, Grants, Ledgers, RewriterRoom, Room};
+use sq_rewriter_hall::RewriterRoom;
+use sq_shared::{Grants, Ledgers, Room};
 use std::sync::Mutex;
 
 /// The engine, the pools, and the rewriter, if there is one, behind their locks.

@@ -11,6 +11,7 @@ use crate::locks::{Blanks, CALLERS, Wholes, lock, pools_of};
 use crate::rewriting::{JUDGED, QUESTIONS, rewriter_of, run_questions};
 use crate::seats::{SEATS, put_moments, run_seats};
 use crate::waits::{WAITS, run_waits};
+use sq_bank::Bank;
 use sq_base::{EpochNo, Moment};
 use sq_cache::HashSeed;
 use sq_calls::{ControlCalls, DeskCalls, DeskFault, HelperCalls, TellsJournal};
@@ -22,11 +23,9 @@ use sq_outside_mem::MemClock;
 use sq_pools::{Pools, TagPools};
 use sq_rewrite::Rewriter;
 use sq_rewrite_pump::LockRewriter;
+use sq_rewriter_hall::{RewriterHall, RewriterRoom};
 use sq_rules::Config;
-use sq_shared::{
-    Asks, Bank, ControlDesk, Grants, Ledgers, LockDesk, Makes, Refusals, RewriterHall,
-    RewriterRoom, Room,
-};
+use sq_shared::{Asks, ControlDesk, Grants, Ledgers, LockDesk, Makes, Refusals, Room};
 use sq_urlmatch::Setup;
 use sq_workers::LockHub;
 use std::alloc::Global;

@@ -1,0 +1,2 @@
+pub mod BankViews
+pub mod Granting
