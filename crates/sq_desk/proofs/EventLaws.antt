@@ -1,6 +1,5 @@
 -- What each call leaves is a desk.
 use Rattle.std.proofs.Common.{◌≡◌, ◌∙◌, ◌==◌, ◌+◌, ◌-◌, ◌<◌, ℕ, ℤ, suc, ◌≤◌, List, [], ◌∷◌, nat_le, Bool, true, false, not, max, length, Option, None, Some, is_some, is_none, Result, Ok, Err, IfOk, IfSome, if◌then◌else◌, refl, ap, sym, subst, arith}
-use Rattle.std.specs.Option.{option_map_or}
 use Rattle.sq_base.specs.Addresses.{Address}
 use Rattle.sq_base.specs.Targets.{target_of}
 use Rattle.sq_base.specs.declared.helpers.Cause.TheVariants as cause
@@ -9,23 +8,13 @@ use Rattle.sq_machine.specs.declared.entries.Event.TheVariants.{Ask, Close, Died
 use Rattle.sq_machine.specs.declared.entries.Event.TheVariants as event
 use Rattle.sq_machine.specs.declared.entries.Told.{Told}
 use Rattle.sq_machine.specs.declared.entries.Told.TheVariants as told
-use Rattle.sq_rules.specs.declared.configs.Acl.{Acl}
-use Rattle.sq_rules.specs.declared.configs.Rule.{Rule}
-use Rattle.sq_rules.specs.declared.outcomes.Outcome.{Outcome}
-use Rattle.sq_rules.specs.declared.outcomes.Why.TheVariants as why
 use Rattle.sq_machine.specs.declared.refusals.Refusal.TheVariants as refusal
 use Rattle.sq_rules.specs.declared.sights.Peer.{Peer}
-use Rattle.sq_rules.specs.declared.values.TermValue.{TermValue}
-use Rattle.sq_rules.specs.declared.values.TermValue.TheVariants as term
-use Rattle.sq_rules.specs.declared.values.Value.{Value}
-use Rattle.sq_rules.specs.declared.values.Value.TheVariants as value
 use Rattle.sq_rules.specs.Configurations.{Configuration, IsConfiguration}
 use Rattle.sq_machine.specs.DueActs.{ClassId, Due, sends, starts, stops}
 use Rattle.sq_machine.specs.Limits.{epoch_limit, last_number}
-use Rattle.sq_machine.specs.Entries.{History, Noted, is_outcome, entry_at}
+use Rattle.sq_machine.specs.Entries.{History, Noted, entry_at}
 use Rattle.sq_machine.specs.Next.{gives, nothing, refuse_if}
-use Rattle.sq_rules.specs.Values.{rule_value, taken_at}
-use Rattle.sq_rules.specs.Verdicts.{decided, default_of, outcome_so_far, rules_from, verdict_over}
 use Rattle.sq_channel.specs.declared.replies.Got.{Got}
 use Rattle.sq_channel.specs.declared.replies.Got.TheVariants as got
 use Rattle.sq_checks.specs.Conns.{client_in}
@@ -35,10 +24,9 @@ use Rattle.sq_model.specs.CheckRows.{Held, held_at, without_check, without_conn}
 use Rattle.sq_model.specs.declared.stepping.Stepped.{Stepped}
 use Rattle.sq_epochs.specs.EpochStates.{home_at}
 use Rattle.sq_machine.specs.declared.acts.Act.{Act}
-use Rattle.sq_model.specs.Answers.{ask_answer, asked_in, busy_in, close_answer, died_answer, failed_answer, name_in, open_answer, reconfigure_answer, started_answer, take_answer, take_of_held}
+use Rattle.sq_model.specs.Answers.{ask_answer, asked_in, busy_in, close_answer, died_answer, failed_answer, name_in, open_answer, reconfigure_answer, started_answer, take_answer}
 use Rattle.sq_model.specs.Changes.{after_ask, after_close, after_end_at, after_failed_at, after_open, after_reconfigured, after_started_at, after_take, at, first_state, with_epoch}
 use Rattle.sq_model.specs.Promises.{IsAnswered}
-use Rattle.sq_model.specs.Says.{outcome_in}
 use Rattle.sq_model.specs.States.{IsSame, State}
 use Rattle.sq_model.proofs.ActPromises.{reconfigure_answered}
 use Rattle.sq_engine.specs.Acting.{IsActPromised, after_act, due_now, told_of_act}
@@ -51,9 +39,10 @@ use Rattle.sq_journal.specs.Noting.{with_entry}
 use Rattle.sq_calls.specs.Legality.{Beginning, IsLegal, IsStated}
 use Rattle.sq_calls.specs.declared.faults.DeskFault.{DeskFault}
 use Rattle.sq_calls.specs.declared.faults.DeskFault.TheVariants as fault
-use Rattle.sq_desk.specs.Calling.{Acts, IsLinePromised, Leaves, CountsMade, Makes, Reads, Rereads, after_died, after_died_of, load_of}
-use Rattle.sq_desk.specs.Desks.{DeskView, HasSpare, IsDesk, IsReplay}
-use Rattle.sq_desk.specs.Noting.{IsNoted, IsReady, Notebook}
+use Rattle.sq_notes.specs.Calling.{Acts, DeskView, IsLinePromised, Leaves, Makes, Reads, Rereads, after_died, after_died_of, load_of}
+use Rattle.sq_notes.specs.Noting.{IsNoted, IsReady, Notebook}
+use Rattle.sq_desk.specs.Calling.{CountsMade}
+use Rattle.sq_desk.specs.Desks.{HasSpare, IsDesk, IsReplay}
 use Rattle.sq_desk.proofs.CallLaws.{same_engine, same_self}
 use Rattle.sq_desk.proofs.SpareLaws.{homes_left, place_for_close, place_for_death, places_closed, places_died, places_listed, places_load, places_open, places_started}
 use Rattle.sq_desk.proofs.ReplayLaws.{desk_keeps, desk_stays, IsKept, legal_of, replay_first, replay_more, replay_next, still_made, stopped_not, with_count}
@@ -518,50 +507,6 @@ close_place v c d going here = place_for_close v.notes.spare (state_of v.engine)
 pub death_place : {first : Beginning} (v : DeskView) (k : ℕ) → IsDesk first v → v.notes.stopped ≡ false
     → is_some (home_at v.engine.epochs k) ≡ true → 0 < v.notes.spare
 death_place v k d going lives = place_for_death v.notes.spare k (state_of v.engine) lives (d.places going)
-
-outcome_default : (rules : List Rule) → is_outcome (default_of rules) ≡ true
-outcome_default [] = refl
-outcome_default (r ∷ []) = refl
-outcome_default (r ∷ q ∷ rules) = outcome_default (q ∷ rules)
-
-outcome_from : (taken : ℕ → TermValue) (acls : List Acl) (default : Outcome) (number : ℕ) (rules : List Rule)
-    → is_outcome default ≡ true
-    → is_outcome (outcome_so_far (rules_from taken acls default number rules)) ≡ true
-outcome_from taken acls default number [] e = e
-outcome_from taken acls default number (r ∷ rules) e = by (rule_value taken acls r)
-    (rules_from taken acls default (number + 1) rules) (outcome_from taken acls default (number + 1) rules e)
-  where
-    by : (t : TermValue) (rest : Value) → is_outcome (outcome_so_far rest) ≡ true
-        → is_outcome (outcome_so_far (decided acls number r t rest)) ≡ true
-    by term.Hit rest more = refl
-    by term.Miss rest more = more
-    by (term.Fault acl cause) rest more = refl
-    by (term.Need acl key) rest more = refl
-
-outcome_fits : (s : State) (h : Held) → is_outcome (outcome_in s h) ≡ true
-outcome_fits s h = by (s.config h.asked.epoch)
-  where
-    by : (o : Option Configuration)
-        → is_outcome (outcome_so_far
-        (option_map_or (λ config. verdict_over h.answers config h.asked.sight) o
-        (value.Verdict (record { allow = false; why = why.Empty })))) ≡ true
-    by None = refl
-    by (Some c) = outcome_from (taken_at c h.asked.sight h.answers) c.acls (default_of c.rules) 1 c.rules
-        (outcome_default c.rules)
-
--- an outcome that is told is one
-pub told_outcome : (s : State) (n e : ℕ) (o : Outcome) → take_answer s n ≡ gives (told.Judged e o) → is_outcome o ≡ true
-told_outcome s n e o is = by (held_at n s.checks) is
-  where
-    judged : (h : Held) (b : Bool)
-        → refuse_if b (refusal.NotDone n) (gives (told.Judged h.asked.epoch (outcome_in s h))) ≡ gives (told.Judged e o)
-        → is_outcome o ≡ true
-    judged h true is = absurd (cc)
-    judged h false is = ap is_outcome (let same : o ≡ outcome_in s h = cc in same) ∙ outcome_fits s h
-
-    by : (x : Option Held) → take_of_held s n x ≡ gives (told.Judged e o) → is_outcome o ≡ true
-    by None is = absurd (cc)
-    by (Some h) is = judged h (not h.done) is
 
 -- the entry of the beginning
 abbrev pub first_entry : ℕ → ℤ → Noted

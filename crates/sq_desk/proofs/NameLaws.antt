@@ -19,8 +19,8 @@ use Rattle.sq_model.proofs.StartStands.{not_refused}
 use Rattle.sq_engine.specs.EngineViews.{state_of}
 use Rattle.sq_calls.specs.Legality.{Beginning, HasName, IsNameOf, configs_over}
 use Rattle.sq_calls.specs.declared.faults.DeskFault.{DeskFault}
-use Rattle.sq_desk.specs.Calling.{Makes}
-use Rattle.sq_desk.specs.Desks.{DeskView, IsDesk, IsReplay}
+use Rattle.sq_notes.specs.Calling.{DeskView, Makes}
+use Rattle.sq_desk.specs.Desks.{IsDesk, IsReplay}
 use Rattle.sq_desk.proofs.ReplayLaws.{over_of}
 
 -- the row of a class of which a start is open

@@ -46,8 +46,8 @@ use Rattle.sq_calls.specs.Legality.{Beginning, configs_over}
 use Rattle.sq_calls.specs.Telling.{AddsOne, AddsSome, HasNext, RefusesClass, noted_at}
 use Rattle.sq_calls.specs.declared.faults.DeskFault.{DeskFault}
 use Rattle.sq_calls.specs.declared.faults.DeskFault.TheVariants as fault
-use Rattle.sq_desk.specs.Calling.{Makes}
-use Rattle.sq_desk.specs.Desks.{DeskView, IsReplay}
+use Rattle.sq_notes.specs.Calling.{DeskView, Makes}
+use Rattle.sq_desk.specs.Desks.{IsReplay}
 use Rattle.sq_desk.proofs.CallLaws.{same_self}
 use Rattle.sq_desk.proofs.ReplayLaws.{over_of}
 

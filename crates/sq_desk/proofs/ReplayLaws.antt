@@ -28,8 +28,8 @@ use Rattle.sq_journal.specs.Noting.{with_entry}
 use Rattle.sq_calls.specs.Legality.{Beginning, IsLegal, IsLegalFrom, IsStated, configs_over}
 use Rattle.sq_calls.specs.declared.faults.DeskFault.{DeskFault}
 use Rattle.sq_calls.specs.declared.faults.DeskFault.TheVariants as fault
-use Rattle.sq_desk.specs.Calling.{Leaves, Makes}
-use Rattle.sq_desk.specs.Desks.{DeskView, HasSpare, IsDesk, IsReplay}
+use Rattle.sq_notes.specs.Calling.{DeskView, Leaves, Makes}
+use Rattle.sq_desk.specs.Desks.{HasSpare, IsDesk, IsReplay}
 use Rattle.sq_desk.proofs.SpareLaws.{places_fewer, places_same}
 
 -- a history that is replayed is legal

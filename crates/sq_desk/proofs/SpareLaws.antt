@@ -12,7 +12,7 @@ use Rattle.sq_epochs.specs.HomeStates.{Home, home_in, home_number}
 use Rattle.sq_model.specs.Changes.{if_live, with_checks}
 use Rattle.sq_model.specs.States.{IsSame, State}
 use Rattle.sq_engine.specs.EngineViews.{EngineView, state_of}
-use Rattle.sq_desk.specs.Calling.{load_of}
+use Rattle.sq_notes.specs.Calling.{load_of}
 use Rattle.sq_desk.specs.Desks.{HasSpare}
 
 -- where each living process is among these, and there is a place for each of these and each connection

@@ -37,8 +37,9 @@ use Rattle.sq_calls.specs.Legality.{Beginning, IsNameOf}
 use Rattle.sq_calls.specs.Telling.{CountsReconfigured, CountsLine, CountsRefusal, IsEventOf, IsLine, IsReread, IsStepTold, IsTakeTold, MayAct, Notes, NotesAs, Refuses, RefusesAt, got_told}
 use Rattle.sq_calls.specs.declared.faults.DeskFault.{DeskFault}
 use Rattle.sq_calls.specs.declared.faults.DeskFault.TheVariants as fault
-use Rattle.sq_desk.specs.Calling.{Acts, CountsMade, Makes, Reads, Rereads, after_died}
-use Rattle.sq_desk.specs.Desks.{DeskView, IsDesk}
+use Rattle.sq_notes.specs.Calling.{Acts, DeskView, Makes, Reads, Rereads, after_died}
+use Rattle.sq_desk.specs.Calling.{CountsMade}
+use Rattle.sq_desk.specs.Desks.{IsDesk}
 use Rattle.sq_desk.specs.Tells.{IsOfClass, Tells, TellsAct, TellsAs, TellsClass, TellsLine, TellsReread}
 use Rattle.sq_desk.proofs.EventLaws.{reconfigured_made}
 use Rattle.sq_desk.proofs.NameLaws.{failed_name, started_name}

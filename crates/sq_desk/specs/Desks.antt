@@ -8,14 +8,9 @@ use Rattle.sq_machine.specs.Readings.{current, latest, offset_of}
 use Rattle.sq_model.specs.Given.{EachOf}
 use Rattle.sq_model.specs.Promises.{StandsFor}
 use Rattle.sq_model.specs.States.{State}
-use Rattle.sq_engine.specs.EngineViews.{EngineView, state_of}
+use Rattle.sq_engine.specs.EngineViews.{state_of}
 use Rattle.sq_calls.specs.Legality.{Beginning, IsLegal, IsStated}
-use Rattle.sq_desk.specs.Noting.{Notebook}
-
--- the machine, and its journal
-pub record DeskView : Type 0 where
-  pub engine : EngineView
-  pub notes : Notebook
+use Rattle.sq_notes.specs.Calling.{DeskView}
 
 -- one that states nothing
 abbrev pub no_configuration : Configuration

@@ -1,5 +1,4 @@
 -- Definitions that the contracts cite.
-pub mod Noting
 pub mod Desks
 pub mod Calling
 pub mod Tells

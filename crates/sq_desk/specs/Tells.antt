@@ -17,7 +17,7 @@ use Rattle.sq_engine.specs.EngineViews.{state_of}
 use Rattle.sq_calls.specs.declared.faults.DeskFault.{DeskFault}
 use Rattle.sq_calls.specs.Legality.{Beginning, IsNameOf}
 use Rattle.sq_calls.specs.Telling.{CountsLine, CountsReconfigured, CountsRefusal, IsReread, MayAct, Notes, NotesAs, Refuses, RefusesAt, got_told}
-use Rattle.sq_desk.specs.Desks.{DeskView}
+use Rattle.sq_notes.specs.Calling.{DeskView}
 
 -- the count of refusals as it is shown
 abbrev pub shown : DeskView → ℕ

@@ -9,7 +9,7 @@ ghost use Rattle.sq_calls.specs.declared.faults.DeskFault.TheVariants as fault;
 ghost use Rattle.sq_checks.specs.OpenChecks.{CheckParts};
 ghost use Rattle.sq_checks.specs.Records.{judged_of};
 ghost use Rattle.sq_checks.specs.Tables.{value_at};
-ghost use Rattle.sq_desk.specs.Calling.{Acts, Makes, Reads, Rereads, after_died};
+ghost use Rattle.sq_notes.specs.Calling.{Acts, Makes, Reads, Rereads, after_died};
 ghost use Rattle.sq_desk.specs.Tells.{Tells, TellsAct, TellsAs, TellsClass, TellsLine, TellsReread, programs_of, shown};
 ghost use Rattle.sq_engine.specs.Acting.{IsActPromised};
 ghost use Rattle.sq_engine.specs.EngineViews.{state_of};
@@ -20,7 +20,6 @@ ghost use Rattle.sq_model.specs.Answers.{ask_answer, asked_in, close_answer, die
 ghost use Rattle.sq_model.specs.Changes.{after_ask, after_close, after_failed_at, after_open, after_started_at, after_take};
 
 use crate::desks::{Desk, DeskStart};
-use crate::{acts, checks, conns, ends, lines, reconfiguring, starts, stepping, taking};
 use sq_base::{
     Addr, CheckNo, ConnNo, Copying, EpochNo, Moment, ProcNo, Request, Texts, WantOfMemory,
 };
@@ -30,6 +29,7 @@ use sq_checks::Record;
 use sq_journal::Journal;
 use sq_machine::Act;
 use sq_model::Stepped;
+use sq_notes::{acts, checks, conns, ends, lines, reconfiguring, starts, stepping, taking};
 use sq_rules::Config;
 use sq_urlmatch::Setup;
 use std::alloc::Global;

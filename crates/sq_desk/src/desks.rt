@@ -5,14 +5,14 @@ ghost use Rattle.sq_desk.specs.Calling.{HasBegun, IsUnbegun};
 ghost use Rattle.sq_desk.specs.Desks.{HasSpare, IsReplay, no_beginning};
 ghost use Rattle.sq_engine.specs.EngineViews.{state_of};
 
-use crate::notes::Notes;
-use crate::reconfiguring::good;
 use sq_base::{EpochNo, Moment, WantOfMemory};
 use sq_cache::HashSeed;
 use sq_calls::DeskFault;
 use sq_engine::Engine;
 use sq_journal::Journal;
 use sq_machine::{Entry, Event, Offset, Told};
+use sq_notes::Notes;
+use sq_notes::reconfiguring::good;
 use sq_outside::COUNT_LIMIT;
 use sq_urlmatch::Setup;
 use std::alloc::Global;
@@ -37,7 +37,8 @@ pub struct Desk<J: Journal, F: DeskStart> {
 }
 
 impl<J: Journal, F: DeskStart> Model for Desk<J, F> {
-    ghost use Rattle.sq_desk.specs.Desks.{DeskView, IsDesk};
+    ghost use Rattle.sq_notes.specs.Calling.{DeskView};
+    ghost use Rattle.sq_desk.specs.Desks.{IsDesk};
 
     ghost Value = { DeskView };
 

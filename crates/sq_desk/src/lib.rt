@@ -1,28 +1,17 @@
 //! The machine with the journal of what it did.
 //!
-//! `Desk` has the calls of the engine. Each makes the engine's call and notes exactly one entry, or notes nothing. All
-//! that the entry needs, a place in the journal, copies of texts, room for a name, is made before the engine's call. A
+//! `Desk` has the calls of the engine. Each makes the engine's call and notes exactly one entry, or notes nothing. A
 //! call is refused as the machine refuses it (`DeskFault::Engine`), for want of memory, because its note failed, or because
 //! an earlier note did: then the desk is stopped for good. Until then the machine's state stands for the journal, where
 //! that tells its entries, and there is a spare place for the close of each open connection and the death of each living
 //! process. A journal that tells is legal, also once the desk is stopped: over the configuration with which the desk
-//! began and those of its reconfigurations, each of which its source states. It
-//! counts the reconfigurations that it noted, and until a note failed the number of the current epoch is one above them.
-//! To those who make its calls it is a `DeskCalls`, which tells its journal and its counts.
+//! began and those of its reconfigurations, each of which its source states. It counts the reconfigurations that it noted,
+//! and until a note failed the number of the current epoch is one above them. To those who make its calls it is a
+//! `DeskCalls`, which tells its journal and its counts.
 #![tactic(auto)]
 
-mod acts;
 mod calls;
-mod checks;
-mod conns;
 mod desks;
-mod ends;
-mod lines;
-mod notes;
-mod reconfiguring;
-mod starts;
-mod stepping;
-mod taking;
 
 pub use desks::{Desk, DeskStart};
 pub use sq_calls::DeskFault;

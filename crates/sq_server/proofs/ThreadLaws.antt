@@ -43,8 +43,8 @@ use Rattle.sq_engine.specs.contracts.current.Current.TheInside as current_inside
 use Rattle.sq_engine.specs.contracts.engines.Engine as engine
 use Rattle.sq_engine.specs.contracts.engines.Engine.TheInside as engine_inside
 use Rattle.sq_journal.specs.declared.journal.Journal as journal
-use Rattle.sq_desk.specs.contracts.notes.Notes as notes
-use Rattle.sq_desk.specs.contracts.notes.Notes.TheInside as notes_inside
+use Rattle.sq_notes.specs.contracts.notes.Notes as notes
+use Rattle.sq_notes.specs.contracts.notes.Notes.TheInside as notes_inside
 use Rattle.sq_desk.specs.declared.desks.DeskStart as first
 use Rattle.sq_desk.specs.contracts.desks.Desk as desk
 use Rattle.sq_desk.specs.contracts.desks.Desk.TheInside as desk_inside

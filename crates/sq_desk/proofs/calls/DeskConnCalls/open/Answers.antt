@@ -1,7 +1,7 @@
 use Rattle.std.proofs.Common.{subst}
 use Rattle.sq_machine.specs.declared.entries.Event.TheVariants as event
 use Rattle.sq_machine.specs.declared.entries.Told.TheVariants as told
-use Rattle.sq_desk.specs.Desks.{DeskView}
+use Rattle.sq_notes.specs.Calling.{DeskView}
 use Rattle.sq_desk.specs.Tells.{Tells}
 use Rattle.sq_desk.proofs.EventLaws.{open_desk}
 use Rattle.sq_desk.proofs.TellingLaws.{open_tells}

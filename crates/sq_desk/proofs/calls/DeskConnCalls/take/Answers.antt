@@ -2,7 +2,7 @@ use Rattle.std.proofs.Common.{subst}
 use Rattle.sq_machine.specs.declared.entries.Event.TheVariants as event
 use Rattle.sq_calls.specs.Telling.{IsTakeTold}
 use Rattle.sq_desk.proofs.NextLaws.{of_check}
-use Rattle.sq_desk.specs.Desks.{DeskView}
+use Rattle.sq_notes.specs.Calling.{DeskView}
 use Rattle.sq_desk.specs.Tells.{TellsAs}
 use Rattle.sq_desk.proofs.EventLaws.{take_desk}
 use Rattle.sq_desk.proofs.TellingLaws.{take_tells}

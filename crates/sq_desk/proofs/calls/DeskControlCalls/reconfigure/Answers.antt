@@ -1,5 +1,5 @@
 use Rattle.std.proofs.Common.{subst}
-use Rattle.sq_desk.specs.Desks.{DeskView}
+use Rattle.sq_notes.specs.Calling.{DeskView}
 use Rattle.sq_desk.specs.Tells.{TellsReread}
 use Rattle.sq_desk.proofs.EventLaws.{reconfigured_desk}
 use Rattle.sq_desk.proofs.TellingLaws.{reread_tells}

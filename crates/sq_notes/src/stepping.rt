@@ -4,7 +4,7 @@ ghost use Rattle.sq_machine.specs.declared.entries.Event.TheVariants as event;
 ghost use Rattle.sq_model.specs.Answers.{name_in};
 ghost use Rattle.sq_engine.specs.EngineViews.{state_of};
 ghost use Rattle.sq_engine.specs.Stepping.{after_step_now, epoch_of, step_now, stepped_told};
-ghost use Rattle.sq_desk.specs.Calling.{Leaves, Makes, desk_of, load_of};
+ghost use Rattle.sq_notes.specs.Calling.{Leaves, Makes, desk_of, load_of};
 
 use crate::notes::Notes;
 use sq_base::{CheckNo, EpochNo, Moment, Text, WantOfMemory};
@@ -55,8 +55,8 @@ fn told_of(engine: &Engine, epoch: EpochNo, stepped: &Stepped, room: Vec<u8>) ->
     }
 }
 
-// A check goes on.
-pub(crate) fn step<J: Journal>(
+/// A check goes on.
+pub fn step<J: Journal>(
     engine: &mut Engine,
     notes: &mut Notes<J>,
     alloc: Global,

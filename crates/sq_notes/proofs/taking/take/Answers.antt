@@ -1,8 +1,8 @@
 use Rattle.std.proofs.Common.{refl}
 use Rattle.sq_engine.specs.EngineViews.{state_of}
 use Rattle.sq_engine.specs.Stepping.{epoch_of}
-use Rattle.sq_desk.proofs.EventLaws.{told_outcome}
-use Rattle.sq_desk.proofs.taking.take.Goals as goal
+use Rattle.sq_notes.proofs.OutcomeLaws.{told_outcome}
+use Rattle.sq_notes.proofs.taking.take.Goals as goal
 
 pub invariant_of-entry : goal.invariant_of-entry
 invariant_of-entry g c = record {

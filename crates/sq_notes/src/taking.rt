@@ -10,7 +10,7 @@ ghost use Rattle.sq_model.specs.Changes.{after_take};
 ghost use Rattle.sq_engine.specs.EngineViews.{state_of};
 ghost use Rattle.sq_engine.specs.Stepping.{epoch_of};
 ghost use Rattle.sq_engine.specs.Tellings.{IsTold};
-ghost use Rattle.sq_desk.specs.Calling.{Leaves, Makes, desk_of, load_of};
+ghost use Rattle.sq_notes.specs.Calling.{Leaves, Makes, desk_of, load_of};
 
 use crate::notes::Notes;
 use sq_base::{CheckNo, Moment, WantOfMemory};
@@ -35,8 +35,8 @@ fn outcome_copy(engine: &Engine, alloc: Global, check: CheckNo) -> Result<Outcom
     }
 }
 
-// The outcome of a check is taken, and the check is over.
-pub(crate) fn take<J: Journal>(
+/// The outcome of a check is taken, and the check is over.
+pub fn take<J: Journal>(
     engine: &mut Engine,
     notes: &mut Notes<J>,
     alloc: Global,

@@ -3,7 +3,7 @@ ghost use Rattle.std.specs.Prelude.{◌≡◌, ◌+◌, max};
 ghost use Rattle.sq_engine.specs.EngineViews.{state_of};
 ghost use Rattle.sq_engine.specs.Lines.{got_told};
 ghost use Rattle.sq_machine.specs.declared.entries.Event.TheVariants as event;
-ghost use Rattle.sq_desk.specs.Calling.{IsLinePromised, Leaves, Reads, desk_of, load_of};
+ghost use Rattle.sq_notes.specs.Calling.{IsLinePromised, Leaves, Reads, desk_of, load_of};
 
 use crate::notes::Notes;
 use sq_base::{Moment, ProcNo, Text, WantOfMemory};
@@ -28,8 +28,8 @@ fn told_of(got: &Got) -> Told
     }
 }
 
-// A line of a process.
-pub(crate) fn line<J: Journal>(
+/// A line of a process.
+pub fn line<J: Journal>(
     engine: &mut Engine,
     notes: &mut Notes<J>,
     alloc: Global,

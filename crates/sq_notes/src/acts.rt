@@ -2,7 +2,7 @@
 ghost use Rattle.std.specs.Prelude.{◌≡◌, ◌+◌, max, IfOk};
 ghost use Rattle.sq_engine.specs.Acting.{IsActPromised};
 ghost use Rattle.sq_engine.specs.EngineViews.{state_of};
-ghost use Rattle.sq_desk.specs.Calling.{Acts, Leaves, desk_of, load_of, told_due};
+ghost use Rattle.sq_notes.specs.Calling.{Acts, Leaves, desk_of, load_of, told_due};
 
 use crate::notes::Notes;
 use sq_base::{Moment, WantOfMemory};
@@ -26,8 +26,8 @@ fn told_next(alloc: Global, engine: &Engine) -> Result<Option<Told>, WantOfMemor
     }
 }
 
-// The next act that is due, which counts as made.
-pub(crate) fn act<J: Journal>(
+/// The next act that is due, which counts as made.
+pub fn act<J: Journal>(
     engine: &mut Engine,
     notes: &mut Notes<J>,
     alloc: Global,

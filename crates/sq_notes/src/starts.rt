@@ -5,7 +5,7 @@ ghost use Rattle.sq_machine.specs.declared.entries.Told.TheVariants as told;
 ghost use Rattle.sq_model.specs.Answers.{failed_answer, name_in, started_answer};
 ghost use Rattle.sq_model.specs.Changes.{after_failed_at, after_started_at};
 ghost use Rattle.sq_engine.specs.EngineViews.{state_of};
-ghost use Rattle.sq_desk.specs.Calling.{Leaves, Makes, desk_of, load_of};
+ghost use Rattle.sq_notes.specs.Calling.{Leaves, Makes, desk_of, load_of};
 
 use crate::notes::Notes;
 use sq_base::{EpochNo, Moment, ProcNo, WantOfMemory};
@@ -15,8 +15,8 @@ use sq_journal::Journal;
 use sq_machine::{Entry, Event, Told, later};
 use std::alloc::Global;
 
-// A process was started, and a place is made for its death.
-pub(crate) fn started<J: Journal>(
+/// A process was started, and a place is made for its death.
+pub fn started<J: Journal>(
     engine: &mut Engine,
     notes: &mut Notes<J>,
     alloc: Global,
@@ -58,8 +58,8 @@ pub(crate) fn started<J: Journal>(
     }
 }
 
-// A start of a class failed.
-pub(crate) fn start_failed<J: Journal>(
+/// A start of a class failed.
+pub fn start_failed<J: Journal>(
     engine: &mut Engine,
     notes: &mut Notes<J>,
     alloc: Global,

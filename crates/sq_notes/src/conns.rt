@@ -7,7 +7,7 @@ ghost use Rattle.sq_machine.specs.declared.entries.Told.TheVariants as told;
 ghost use Rattle.sq_model.specs.Answers.{close_answer, open_answer};
 ghost use Rattle.sq_model.specs.Changes.{after_close, after_open};
 ghost use Rattle.sq_engine.specs.EngineViews.{state_of};
-ghost use Rattle.sq_desk.specs.Calling.{Leaves, Makes, desk_of, load_of};
+ghost use Rattle.sq_notes.specs.Calling.{Leaves, Makes, desk_of, load_of};
 
 use crate::notes::Notes;
 use sq_base::{Addr, ConnNo, Moment};
@@ -16,8 +16,8 @@ use sq_engine::Engine;
 use sq_journal::Journal;
 use sq_machine::{Entry, Event, Told, later};
 
-// A client's connection opens, and a place is made for its close.
-pub(crate) fn open<J: Journal>(
+/// A client's connection opens, and a place is made for its close.
+pub fn open<J: Journal>(
     engine: &mut Engine,
     notes: &mut Notes<J>,
     conn: ConnNo,
@@ -49,8 +49,8 @@ pub(crate) fn open<J: Journal>(
     notes.note(entry)
 }
 
-// A connection closes. The place is there.
-pub(crate) fn close<J: Journal>(
+/// A connection closes. The place is there.
+pub fn close<J: Journal>(
     engine: &mut Engine,
     notes: &mut Notes<J>,
     conn: ConnNo,

@@ -6,7 +6,7 @@ ghost use Rattle.sq_machine.specs.declared.entries.Event.TheVariants as event;
 ghost use Rattle.sq_machine.specs.declared.entries.Told.TheVariants as told;
 ghost use Rattle.sq_model.specs.Answers.{died_answer};
 ghost use Rattle.sq_engine.specs.EngineViews.{state_of};
-ghost use Rattle.sq_desk.specs.Calling.{Leaves, Makes, after_died, desk_of};
+ghost use Rattle.sq_notes.specs.Calling.{Leaves, Makes, after_died, desk_of};
 
 use crate::notes::Notes;
 use sq_base::{Moment, ProcNo};
@@ -15,8 +15,8 @@ use sq_engine::Engine;
 use sq_journal::Journal;
 use sq_machine::{Entry, Event, Told, later};
 
-// A process died. The place is there.
-pub(crate) fn died<J: Journal>(
+/// A process died. The place is there.
+pub fn died<J: Journal>(
     engine: &mut Engine,
     notes: &mut Notes<J>,
     proc: ProcNo,

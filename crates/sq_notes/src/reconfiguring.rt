@@ -1,7 +1,7 @@
 //! Another configuration.
 ghost use Rattle.std.specs.Prelude.{◌≡◌, ◌+◌, max, IfOk};
 ghost use Rattle.sq_rules.specs.Configurations.{IsConfiguration};
-ghost use Rattle.sq_desk.specs.Calling.{Leaves, Rereads, desk_of, load_of};
+ghost use Rattle.sq_notes.specs.Calling.{Leaves, Rereads, desk_of, load_of};
 
 use crate::notes::Notes;
 use sq_base::{Copying, EpochNo, Moment, Text, WantOfMemory};
@@ -19,8 +19,8 @@ fn source_of(alloc: Global, setup: &Setup) -> Result<Text, WantOfMemory>
     setup.config().source().copy(alloc)
 }
 
-// Another configuration is current.
-pub(crate) fn reconfigure<J: Journal>(
+/// Another configuration is current.
+pub fn reconfigure<J: Journal>(
     engine: &mut Engine,
     notes: &mut Notes<J>,
     alloc: Global,
@@ -57,8 +57,8 @@ pub(crate) fn reconfigure<J: Journal>(
     Ok(epoch)
 }
 
-// What holds of every configuration.
-pub(crate) fn good(setup: &Setup)
+/// What holds of every configuration.
+pub fn good(setup: &Setup)
     ensures { IsConfiguration setup.now }
 {
     setup.config().facts();

@@ -8,8 +8,8 @@ ghost use Rattle.sq_machine.specs.declared.entries.Told.TheVariants as told;
 ghost use Rattle.sq_model.specs.Answers.{ask_answer, asked_in};
 ghost use Rattle.sq_model.specs.Changes.{after_ask};
 ghost use Rattle.sq_engine.specs.EngineViews.{state_of};
-ghost use Rattle.sq_desk.specs.Calling.{Leaves, Makes, desk_of, load_of};
-ghost use Rattle.sq_desk.specs.Noting.{IsReady, done_of};
+ghost use Rattle.sq_notes.specs.Calling.{Leaves, Makes, desk_of, load_of};
+ghost use Rattle.sq_notes.specs.Noting.{IsReady, done_of};
 
 use crate::notes::Notes;
 use sq_base::{CheckNo, ConnNo, Copying, Moment, Request, WantOfMemory};
@@ -67,8 +67,8 @@ fn ready<J: Journal>(
     }
 }
 
-// A request arrives on a connection, and its check begins.
-pub(crate) fn ask<J: Journal>(
+/// A request arrives on a connection, and its check begins.
+pub fn ask<J: Journal>(
     engine: &mut Engine,
     notes: &mut Notes<J>,
     alloc: Global,

@@ -2,7 +2,7 @@
 ghost use Rattle.std.specs.Prelude.{◌≡◌, ◌+◌, ◌-◌, ◌<◌, ◌≤◌, IsErrOf, false};
 ghost use Rattle.sq_calls.specs.Faults.{fault_of};
 ghost use Rattle.sq_calls.specs.declared.faults.DeskFault.TheVariants as fault;
-ghost use Rattle.sq_desk.specs.Noting.{IsNoted, IsReady, after_refusal, counted};
+ghost use Rattle.sq_notes.specs.Noting.{IsNoted, IsReady, after_refusal, counted};
 
 use sq_base::{EpochNo, WantOfMemory};
 use sq_calls::DeskFault;
@@ -17,7 +17,7 @@ const MOST: u128 = 0xFFFF_FF00;
 /// A journal, whether a note of it failed, how many calls were refused, up to 2^63 - 1, and how many reconfigurations
 /// were noted.
 #[derive(Drop)]
-pub(crate) struct Notes<J: Journal> {
+pub struct Notes<J: Journal> {
     journal: J,
     stopped: bool,
     refusals: u64,
@@ -27,7 +27,7 @@ pub(crate) struct Notes<J: Journal> {
 impl<J: Journal> Model for Notes<J> {
     ghost use Rattle.std.specs.Prelude.{◌≤◌};
     ghost use Rattle.sq_outside.specs.Causes.{count_limit};
-    ghost use Rattle.sq_desk.specs.Noting.{Notebook};
+    ghost use Rattle.sq_notes.specs.Noting.{Notebook};
 
     ghost Value = { Notebook };
 
