@@ -1,6 +1,4 @@
 mod DecideLaws
 mod Defaults
 mod PoolLaws
-mod SeenLaws
-mod TagLaws
 mod TakingLaws

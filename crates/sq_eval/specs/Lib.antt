@@ -1,3 +1,2 @@
 pub mod Rans
 pub mod Takings
-pub mod Traces

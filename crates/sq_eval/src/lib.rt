@@ -1,15 +1,14 @@
 //! What rules come to over the facts of a check and the answers of helpers that it has.
 //!
 //! `evaluate` gives the verdict of a configuration, or the acl and key whose answer is needed first.
-//! `pool_of` gives the delay pool of a check, `tag_of` the tag that its helpers named, and `decision` what one rule decides
-//! that asks no helper. All equal the definitions of the rules: terms from left to right, up to what decides.
+//! `pool_of` gives the delay pool of a check, and `decision` what one rule decides that asks no helper. All equal the
+//! definitions of the rules: terms from left to right, up to what decides.
 #![tactic(auto)]
 
 mod deciding;
 mod evaluating;
 mod pools;
 mod rules;
-mod tags;
 mod taking;
 mod terms;
 
@@ -17,4 +16,4 @@ pub use deciding::decision;
 pub use evaluating::evaluate;
 pub use pools::pool_of;
 pub use sq_rules::Value;
-pub use tags::tag_of;
+pub use taking::{turned, value_if, what_value};

@@ -34,8 +34,8 @@ fn is_for(answer: &Answer, class: u32, key: &Text) -> bool
     answer.class == class && answer.key == *key
 }
 
-// The value of an external acl with this answer: OK is a match, ERR is none.
-pub(crate) fn what_value(acl: u32, what: &What) -> TermValue
+/// The value of an external acl with this answer: OK is a match, ERR is none.
+pub fn what_value(acl: u32, what: &What) -> TermValue
     ensures { (key : List ℕ) → result ≡ answer_value acl key (Some what.now) }
 {
     match what {

@@ -8,10 +8,10 @@ ghost use Rattle.sq_rules.specs.Facts.{facts_of};
 ghost use Rattle.sq_rules.specs.Keys.{key_text};
 ghost use Rattle.sq_rules.specs.Values.{answer_for, answer_value};
 ghost use Rattle.sq_eval.specs.Takings.{answers_for};
-ghost use Rattle.sq_eval.specs.Traces as traces;
+ghost use Rattle.sq_tags.specs.Traces as traces;
 
-use crate::taking::{turned, value_if, what_value};
 use sq_base::{Answer, Answers, Copying, Pair, Steps, Text, WantOfMemory, What};
+use sq_eval::{turned, value_if, what_value};
 use sq_format::key;
 use sq_rules::{Acl, Body, Config, Facts, Rule, Sight, Term, TermValue, Terms};
 use std::alloc::Global;
