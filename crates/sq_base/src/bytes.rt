@@ -19,9 +19,16 @@ use std::hash::{Hash, Hasher};
 use std::marker::Model;
 
 /// Bytes. A contract sees their list.
-#[derive(Drop, Debug)]
+#[derive(Debug)]
 pub struct Text {
     bytes: Vec<u8>,
+}
+
+// Written out, so that whoever lets a text go proves one call.
+impl Drop for Text {
+    fn drop(self) {
+        let Text { bytes: _ } = self;
+    }
 }
 
 /// A list of texts.
@@ -58,7 +65,8 @@ impl Text {
     pub fn into_vec(self) -> Vec<u8>
         ensures { result.items ≡ self }
     {
-        self.bytes
+        let Text { bytes } = self;
+        bytes
     }
 
     /// A text with these bytes.

@@ -9,9 +9,15 @@ use std::alloc::Global;
 use std::marker::Model;
 
 /// Values in a row. A contract sees their list.
-#[derive(Drop)]
 pub struct Listed<T> {
     items: Vec<T>,
+}
+
+// Written out, so that whoever lets a list go proves one call.
+impl<T: Drop> Drop for Listed<T> {
+    fn drop(self) {
+        let Listed { items: _ } = self;
+    }
 }
 
 impl<T> Model for Listed<T> {
@@ -43,7 +49,8 @@ impl<T> Listed<T> {
     pub fn into_vec(self) -> Vec<T>
         ensures { result.items ≡ self }
     {
-        self.items
+        let Listed { items } = self;
+        items
     }
 
     /// The values, lent.
