@@ -61,13 +61,24 @@ fn make_room(
 
 /// Acls with names of their own, and of each its place by name, how deep it nests, and whether it asks
 /// a helper or reaches an acl that does. A contract sees the acls.
-#[derive(Drop)]
 pub struct AclTable {
     acls: Vec<Acl>,
     places: Names,
     nestings: Vec<u32>,
     slow: Vec<bool>,
     unmade: usize,
+}
+
+impl Drop for AclTable {
+    fn drop(self) {
+        let AclTable {
+            acls: _,
+            places: _,
+            nestings: _,
+            slow: _,
+            unmade: _,
+        } = self;
+    }
 }
 
 impl Model for AclTable {
@@ -324,18 +335,21 @@ impl AclTable {
         nesting_of(self.nestings.as_slice(), body).is_none()
     }
 
-    /// The table with one acl more, which must not nest too deep.
-    pub fn with(mut self, alloc: Global, name: Text, body: Body) -> Result<AclTable, BuildFault>
-        requires few { length self < most_acls }
-        requires free { place_of self name ≡ None }
-        ensures made { IsMade result (with_acl self name body) }
-        ensures longer { IfOk result (λ t. t ≡ self ++ (record { name = name; body = body }) ∷ []) }
+    /// One acl more, which must not nest too deep.
+    pub fn with(&mut self, alloc: Global, name: Text, body: Body) -> Result<(), BuildFault>
+        requires few { length self.old < most_acls }
+        requires free { place_of self.old name ≡ None }
+        ensures made { OnOk result (with_acl self.old name body ≡ Ok self.new) }
+        ensures longer { OnOk result
+            (self.new ≡ self.old ++ (record { name = name; body = body }) ∷ []) }
+        ensures err { IfErr result (λ e. e ≢ BuildFault.WantOfMemory
+            → with_acl self.old name body ≡ Err e) }
     {
         if self.is_too_deep(&body) {
             return Err(BuildFault::TooDeep(name));
         }
         self.push(alloc, name, body)?;
-        Ok(self)
+        Ok(())
     }
 
     /// Puts further values into the leaf at a place.
@@ -409,6 +423,13 @@ impl AclTable {
         ensures unique { are_unique result ≡ true }
         ensures shallow { are_shallow result ≡ true }
     {
-        Listed::from_vec(self.acls)
+        let AclTable {
+            acls,
+            places: _,
+            nestings: _,
+            slow: _,
+            unmade: _,
+        } = self;
+        Listed::from_vec(acls)
     }
 }

@@ -103,7 +103,7 @@ pub fn classes_of(alloc: Global, parts: Classes) -> Result<ClassTable, BuildFaul
         if classes.place(&part.name).is_some() {
             return Err(BuildFault::Duplicate(part.name));
         }
-        classes = classes.with(alloc, completed(part)?)?;
+        classes.push(alloc, completed(part)?)?;
     }
     Ok(classes)
 }
@@ -123,7 +123,7 @@ pub fn acls_of(alloc: Global, classes: &ClassTable, parts: AclParts) -> Result<A
             return Err(BuildFault::Duplicate(part.name));
         }
         let body = body_of(alloc, classes, &acls, part.body)?;
-        acls = acls.with(alloc, part.name, body)?;
+        acls.with(alloc, part.name, body)?;
     }
     Ok(acls)
 }

@@ -1,5 +1,5 @@
 //! The classes of a configuration under way.
-ghost use Rattle.std.specs.Prelude.{◌≡◌, ◌∷◌, ◌++◌, ◌<◌, [], true, length, None, IfOk, IfSome, OnOk, OnErr};
+ghost use Rattle.std.specs.Prelude.{◌≡◌, ◌∷◌, ◌++◌, ◌<◌, [], true, length, None, IfSome, OnOk, OnErr};
 ghost use Rattle.sq_rules.specs.Building.{class_place};
 ghost use Rattle.sq_rules.specs.Configurations.{have_distinct_names};
 ghost use Rattle.sq_rules.specs.Limits.{most_classes};
@@ -11,10 +11,18 @@ use std::alloc::Global;
 use std::marker::Model;
 
 /// Classes with names of their own, and their places by name. A contract sees the classes.
-#[derive(Drop)]
 pub struct ClassTable {
     classes: Vec<Class>,
     places: Names,
+}
+
+impl Drop for ClassTable {
+    fn drop(self) {
+        let ClassTable {
+            classes: _,
+            places: _,
+        } = self;
+    }
 }
 
 impl Model for ClassTable {
@@ -71,16 +79,6 @@ impl ClassTable {
         Ok(())
     }
 
-    /// The table with one class more.
-    pub fn with(mut self, alloc: Global, class: Class) -> Result<ClassTable, WantOfMemory>
-        requires few { length self < most_classes }
-        requires free { class_place self class.name ≡ None }
-        ensures { IfOk result (λ t. t ≡ self ++ class ∷ []) }
-    {
-        self.push(alloc, class)?;
-        Ok(self)
-    }
-
     /// The classes, lent.
     pub fn as_slice(&self) -> &[Class]
         ensures { result.now ≡ self.now }
@@ -93,6 +91,7 @@ impl ClassTable {
         ensures classes { result ≡ self }
         ensures distinct { have_distinct_names result ≡ true }
     {
-        Listed::from_vec(self.classes)
+        let ClassTable { classes, places: _ } = self;
+        Listed::from_vec(classes)
     }
 }

@@ -8,9 +8,15 @@ use std::collections::BTreeMap;
 use std::marker::Model;
 
 /// The places of names. A contract sees each name with its place.
-#[derive(Drop)]
 pub struct Names {
     places: BTreeMap<Text, u32>,
+}
+
+// Written out, as the drops of the tables are, so that what lets one go proves one call, and not the drop of each part.
+impl Drop for Names {
+    fn drop(self) {
+        let Names { places: _ } = self;
+    }
 }
 
 impl Model for Names {

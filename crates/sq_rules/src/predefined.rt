@@ -1,5 +1,5 @@
 //! The acls that stand before the first line of a configuration.
-ghost use Rattle.std.specs.Prelude.{◌≡◌, [], IfOk};
+ghost use Rattle.std.specs.Prelude.{◌≡◌, ◌++◌, [], IfOk, OnOk};
 ghost use Rattle.sq_base.specs.Addresses.{v4, v6};
 ghost use Rattle.sq_rules.specs.Predefined.{leaf_part, all_part, connect_part, localhost_part, manager_part, predefined, to_linklocal_part, to_localhost_part};
 
@@ -124,17 +124,24 @@ fn to_linklocal_part(alloc: Global) -> Result<AclPart, WantOfMemory>
     )
 }
 
+// Puts them at the end. What goes by reference is let go at no way out.
+fn put_all(alloc: Global, acls: &mut AclParts) -> Result<(), WantOfMemory>
+    ensures { OnOk result (acls.new ≡ acls.old ++ predefined) }
+{
+    acls.push(all_part(alloc)?)?;
+    acls.push(localhost_part(alloc)?)?;
+    acls.push(connect_part(alloc)?)?;
+    acls.push(manager_part(alloc)?)?;
+    acls.push(to_localhost_part(alloc)?)?;
+    acls.push(to_linklocal_part(alloc)?)
+}
+
 /// The acls that stand before the first line: `all`, `localhost`, `CONNECT`, `manager`,
 /// `to_localhost` and `to_linklocal`. A line may add values to each.
 pub fn predefined_acls(alloc: Global) -> Result<AclParts, WantOfMemory>
     ensures { IfOk result (λ acls. acls ≡ predefined) }
 {
     let mut acls = Listed::new(alloc);
-    acls.push(all_part(alloc)?)?;
-    acls.push(localhost_part(alloc)?)?;
-    acls.push(connect_part(alloc)?)?;
-    acls.push(manager_part(alloc)?)?;
-    acls.push(to_localhost_part(alloc)?)?;
-    acls.push(to_linklocal_part(alloc)?)?;
+    put_all(alloc, &mut acls)?;
     Ok(acls)
 }
