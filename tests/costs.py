@@ -171,14 +171,14 @@ class Costs:
         self.seconds += seconds
         self.is_whole = run_of["status"] is not None
 
-    def chain(self, below):
-        """The seconds of the longest chain of proofs, and the crates in it."""
+    def chain(self, below, of):
+        """The longest chain of proofs by the seconds of each, and the crates in it."""
         found = {}
 
         def longest(name):
             if name not in found:
                 before = max((longest(it) for it in below[name]), default=(0, []))
-                found[name] = before[0] + self.ended.get(name, 0) - self.began.get(name, 0), [*before[1], name]
+                found[name] = before[0] + of.get(name, 0), [*before[1], name]
             return found[name]
 
         return max(longest(it) for it in below)
@@ -197,13 +197,15 @@ def table(logs):
         lines.append("| " + " | ".join([f"`{name}`", *[f"{it:.0f}" for it in parts], f"{whole:.0f}", f"{ready:.0f}", f"{end:.0f}"]) + " |")
     sums = [sum(row[2][it] for row in rows) for it in range(len(KINDS))]
     lines.append("| all | " + " | ".join(f"{it:.0f}" for it in sums) + f" | {sum(sums):.0f} | | {costs.seconds:.0f} |")
-    chain, names = costs.chain(below)
+    chain, names = costs.chain(below, {it: costs.ended[it] - costs.began[it] for it in costs.began})
+    alone, _ = costs.chain(below, {name: took for (name, kind), took in costs.quiet.items() if kind == "proof"})
     counts = sorted(costs.counts) or [QUIET]
     said = [
         f"In all {sum(sums) / 60:.0f} processor minutes, in {costs.seconds / 60:.0f} minutes; {len(rows)} of the {len(below)} crates were proved.",
         f"The longest chain of proofs took {chain / 60:.0f} minutes: " + ", ".join(f"`{it}`" for it in names if it in costs.began) + ".",
         f"Meanwhile counting to a million in Python took {sum(counts) / len(counts):.3f} seconds of a processor, from {counts[0]:.3f} to {counts[-1]:.3f}.",
-        f"On one where it always takes {QUIET} it would be {sum(costs.quiet.values()) / 60:.0f} processor minutes.",
+        f"On one where it always takes {QUIET}, as where it has its core alone, it would be {sum(costs.quiet.values()) / 60:.0f} "
+        f"processor minutes, and the longest chain {alone / 60:.0f} minutes.",
     ]
     said += [] if costs.is_whole else ["The run was stopped before its end."]
     return "\n".join([*lines, "", *textwrap.wrap(" ".join(said), 120, break_long_words=False)])
