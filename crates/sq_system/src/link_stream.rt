@@ -54,13 +54,25 @@ pub(crate) enum Side {
 }
 
 /// What a half of a link needs to know to wait for its socket.
-#[derive(Drop)]
 pub(crate) struct LinkWatch<R> {
     rt: R,
     pub(crate) line: Arc<LinkStream>,
     pub(crate) side: Side,
     house: Option<Arc<House>>,
     times: LinkTimes,
+}
+
+// Written out, so that what lets a half of a link go proves one call.
+impl<R: Drop> Drop for LinkWatch<R> {
+    fn drop(self) {
+        let LinkWatch {
+            rt: _,
+            line: _,
+            side: _,
+            house: _,
+            times: _,
+        } = self;
+    }
 }
 
 /// Another handle of what adapters share, if there is one.

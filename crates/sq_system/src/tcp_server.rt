@@ -113,16 +113,62 @@ impl<R: Net<Listener = TcpListener, Stream = TcpStream> + Copy + Drop> RealListe
         ensures fresh { IfOk result (λ l. accept_faults l.listener ≡ 0) }
     {
         let listener = bind(&rt, port)?;
-        let socket = TcpStream::from(OwnedFd::from(listener.try_clone()?));
-        set(&socket, times)?;
-        let house = Arc::new(alloc, House::new(alloc))?;
-        let stopper = RealStopper {
-            rt,
-            socket,
-            house: Arc::try_clone(&house)?,
-        };
-        let dialer = RealDialer::beside(rt, times, Arc::try_clone(&house)?);
-        let spawner = RealSpawner::beside(rt, times, Arc::try_clone(&house)?);
+        let socket = socket_of(&listener, times)?;
+        let keys = HouseKeys::new(alloc)?;
+        Ok(RealListener::opened(alloc, rt, listener, socket, times, keys))
+    }
+}
+
+// Another handle of a listener's socket, which has its settings then.
+fn socket_of(listener: &TcpListener, times: LinkTimes) -> io::Result<TcpStream> {
+    let socket = TcpStream::from(OwnedFd::from(listener.try_clone()?));
+    set(&socket, times)?;
+    Ok(socket)
+}
+
+// What a listener and those beside it share, for each of the four.
+struct HouseKeys {
+    entrance: Arc<House>,
+    stopper: Arc<House>,
+    dialer: Arc<House>,
+    spawner: Arc<House>,
+}
+
+impl HouseKeys {
+    fn new(alloc: Global) -> io::Result<HouseKeys> {
+        let entrance = Arc::new(alloc, House::new(alloc))?;
+        let stopper = Arc::try_clone(&entrance)?;
+        let dialer = Arc::try_clone(&entrance)?;
+        let spawner = Arc::try_clone(&entrance)?;
+        Ok(HouseKeys {
+            entrance,
+            stopper,
+            dialer,
+            spawner,
+        })
+    }
+}
+
+impl<R: Copy> RealListener<R> {
+    ghost use Rattle.sq_system.specs.Adapters.{accept_faults};
+
+    // The listener and those beside it, where all is there that they need.
+    fn opened(
+        alloc: Global,
+        rt: R,
+        listener: TcpListener,
+        socket: TcpStream,
+        times: LinkTimes,
+        keys: HouseKeys,
+    ) -> Listening<R>
+        ensures fresh { accept_faults result.listener ≡ 0 }
+    {
+        let HouseKeys {
+            entrance: house,
+            stopper,
+            dialer,
+            spawner,
+        } = keys;
         let entrance = Entrance {
             rt,
             listener,
@@ -130,16 +176,19 @@ impl<R: Net<Listener = TcpListener, Stream = TcpStream> + Copy + Drop> RealListe
             times,
             house,
         };
-        let listener = RealListener {
-            entrance,
-            faults: 0,
-        };
-        Ok(Listening {
-            listener,
-            stopper,
-            dialer,
-            spawner,
-        })
+        Listening {
+            listener: RealListener {
+                entrance,
+                faults: 0,
+            },
+            stopper: RealStopper {
+                rt,
+                socket,
+                house: stopper,
+            },
+            dialer: RealDialer::beside(rt, times, dialer),
+            spawner: RealSpawner::beside(rt, times, spawner),
+        }
     }
 }
 
