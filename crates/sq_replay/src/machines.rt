@@ -26,12 +26,23 @@ use std::sync::Arc;
 
 /// The engine and its delay pools, at the greatest moment of all events so far, with the record last taken on each
 /// connection, where it allows. A contract sees these parts, and by `machine_of` the machine that stands for a history.
-#[derive(Drop)]
 pub struct ScriptMachine {
     pub(crate) engine: Engine,
     pub(crate) pools: SeatedPools,
     pub(crate) latest: Moment,
     pub(crate) riders: Riders,
+}
+
+// Written out, so that the drops of its parts are proved here alone, and not in each crate that lets a machine go.
+impl Drop for ScriptMachine {
+    fn drop(self) {
+        let ScriptMachine {
+            engine: _,
+            pools: _,
+            latest: _,
+            riders: _,
+        } = self;
+    }
 }
 
 impl Model for ScriptMachine {
