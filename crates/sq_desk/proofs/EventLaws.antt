@@ -1,5 +1,5 @@
 -- What each call leaves is a desk.
-use Rattle.std.proofs.Common.{◌≡◌, ◌∙◌, ◌==◌, ◌+◌, ◌-◌, ◌<◌, ℕ, ℤ, suc, ◌≤◌, List, [], ◌∷◌, nat_le, Bool, true, false, not, max, length, Option, None, Some, is_some, is_none, Result, Ok, Err, IfOk, IfSome, if◌then◌else◌, refl, ap, sym, subst, arith}
+use Rattle.std.proofs.Common.{◌≡◌, ◌∙◌, ◌==◌, ◌+◌, ◌-◌, ◌<◌, ℕ, ℤ, suc, ◌≤◌, List, [], ◌∷◌, nat_le, Bool, true, false, max, length, Option, None, Some, is_some, is_none, Result, Ok, Err, IfOk, IfSome, if◌then◌else◌, refl, ap, sym, subst, arith}
 use Rattle.sq_base.specs.Addresses.{Address}
 use Rattle.sq_base.specs.Targets.{target_of}
 use Rattle.sq_base.specs.declared.helpers.Cause.TheVariants as cause
