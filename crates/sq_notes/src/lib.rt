@@ -2,7 +2,8 @@
 //!
 //! `Notes` is a journal with the word whether a note failed, the count of refusals and that of noted reconfigurations.
 //! Each event is a function over an engine and notes: it makes what the entry needs, a place in the journal, copies of
-//! texts, room for a name; then the engine's call; and notes exactly one entry, or nothing where the call is refused.
+//! texts, room for a name; then the engine's call; and notes exactly one entry, or nothing where the call is refused or no act
+//! is due. `good` says for proofs what holds of every configuration.
 #![tactic(auto)]
 
 pub mod acts;

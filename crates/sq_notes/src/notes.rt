@@ -81,7 +81,7 @@ impl<J: Journal> Notes<J> {
     }
 
     /// Counts a refusal.
-    pub fn count(&mut self)
+    pub(crate) fn count(&mut self)
         ensures { self.new ≡ counted self.old }
     {
         if self.refusals < COUNT_LIMIT {
@@ -91,7 +91,7 @@ impl<J: Journal> Notes<J> {
 
     /// Counts the reconfigurations by the epoch of the last one, since epochs are numbered from 1 and the first began
     /// with the machine.
-    pub fn reread(&mut self, epoch: EpochNo)
+    pub(crate) fn reread(&mut self, epoch: EpochNo)
         ensures { self.new ≡ record self.old { made = epoch - 1 } }
     {
         self.made = epoch.0.saturating_sub(1);
@@ -115,7 +115,7 @@ impl<J: Journal> Notes<J> {
     }
 
     /// Makes sure that no note failed.
-    pub fn going(&mut self) -> Result<(), DeskFault>
+    pub(crate) fn going(&mut self) -> Result<(), DeskFault>
         ensures ready { IsReady 0 self.old result self.new }
         ensures memory { IsErrOf result fault.WantOfMemory → ⊥ }
     {
@@ -127,7 +127,7 @@ impl<J: Journal> Notes<J> {
     }
 
     /// The fault of a refusal of the machine, counted where it is none of memory.
-    pub fn refuse(&mut self, refusal: Refusal) -> DeskFault
+    pub(crate) fn refuse(&mut self, refusal: Refusal) -> DeskFault
         ensures fault { result ≡ fault_of refusal }
         ensures counts { self.new ≡ after_refusal refusal self.old }
     {
