@@ -88,7 +88,7 @@ pub fn origins<'a>(
 }
 
 /// A program that says these lines, each once it was asked once more and a line more was written to another wire, or ends
-/// after 20,000,000 turns of waiting. What it is asked goes over the first wire.
+/// after 4,000,000 turns of waiting. What it is asked goes over the first wire.
 pub fn program<'a>(
     rt: &impl Abort,
     alloc: Global,
@@ -104,7 +104,7 @@ pub fn program<'a>(
     let waits = Some(MemWait {
         wire: asked,
         other: wire,
-        turns: 20_000_000,
+        turns: 4_000_000,
     });
     let mut children = Vec::new(alloc);
     let child = MemChild { words, pair, waits };
