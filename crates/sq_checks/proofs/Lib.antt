@@ -7,5 +7,7 @@ mod MapLaws
 pub mod NeedLaws
 mod PoolLaws
 pub mod RowLaws
+mod SeenLaws
 pub mod StepLaws
 mod TableLaws
+mod TagLaws

@@ -6,3 +6,4 @@ pub mod OpenChecks
 pub mod Records
 pub mod Stages
 pub mod Tables
+pub mod Traces

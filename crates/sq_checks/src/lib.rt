@@ -5,7 +5,8 @@
 //! answers, from where it stopped, `note` and `finish` take what a step says, `serve` gives it the answer of the
 //! question that it waits for.
 //! `OpenChecks` holds them by number, and `Record` is what is left of one whose outcome was taken; `seat_place` says
-//! where that is seated. A check that waits has its own copy of the key, so the end of its question is delivered
+//! where that is seated; where the buckets of its pool are by tags, by the tag that the helpers of its check named, the
+//! first one of the walk over its answers. A check that waits has its own copy of the key, so the end of its question is delivered
 //! without memory.
 #![tactic(auto)]
 
@@ -18,6 +19,7 @@ mod records;
 mod seat_places;
 mod stages;
 mod tables;
+mod tags;
 
 pub use conns::{Conns, Link};
 pub use going::class_of;

@@ -3,10 +3,10 @@ ghost use Rattle.std.specs.Prelude.{◌≡◌, true, IfOk, IfErr};
 ghost use Rattle.sq_machine.specs.SeatPlaces.{has_tags, seat_place};
 
 use crate::records::Record;
+use crate::tags::tag_of;
 use sq_base::WantOfMemory;
 use sq_machine::SeatPlace;
 use sq_rules::Pool;
-use sq_tags::tag_of;
 use std::alloc::Global;
 
 // Whether the buckets of a pool are by tags.

@@ -1,9 +1,9 @@
 use Rattle.std.proofs.Common.{◌≡◌, IfOk, length, map, subst, sym, ap, ◌∙◌}
 use Rattle.sq_rules.specs.Walks.{term_seen}
-use Rattle.sq_tags.specs.Traces.{line_traced, some_traced, tags_in, taken_by_tags, term_traced, trace}
-use Rattle.sq_tags.proofs.SeenLaws.{acl_seen, body_seen}
-use Rattle.sq_tags.proofs.TagLaws.{lines_are, members_are, term_is, traced}
-use Rattle.sq_tags.proofs.tags.+tags.Goals as goal
+use Rattle.sq_checks.specs.Traces.{line_traced, some_traced, tags_in, taken_by_tags, term_traced, trace}
+use Rattle.sq_checks.proofs.SeenLaws.{acl_seen, body_seen}
+use Rattle.sq_checks.proofs.TagLaws.{lines_are, members_are, term_is, traced}
+use Rattle.sq_checks.proofs.tags.+tags.Goals as goal
 
 pub acl_traced-returns-in-AnyOf : goal.acl_traced-returns-in-AnyOf
 acl_traced-returns-in-AnyOf g t c =

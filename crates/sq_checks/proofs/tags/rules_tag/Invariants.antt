@@ -1,8 +1,8 @@
 use Rattle.std.proofs.Common.{◌≡◌, true, length, drop}
 use Rattle.std.specs.List.{list_all}
 use Rattle.sq_rules.specs.Configurations.{is_known_rule}
-use Rattle.sq_tags.specs.Traces.{rules_tag}
-use Rattle.sq_tags.proofs.tags.rules_tag.Given as goal
+use Rattle.sq_checks.specs.Traces.{rules_tag}
+use Rattle.sq_checks.proofs.tags.rules_tag.Given as goal
 
 -- no rule so far decides or has a tag
 abbrev pub invariant-loop-rule : goal.invariant-loop-rule

@@ -1,7 +1,7 @@
 use Rattle.std.proofs.Common.{◌≡◌, ◌<◌, Some, length, slice_get, ap, sym, ◌∙◌}
 use Rattle.std.proofs.lemmas.Option.{slice_get-get_or}
 use Rattle.sq_rules.proofs.ValueLaws.{known_here}
-use Rattle.sq_tags.proofs.tags.acl_at.Goals as goal
+use Rattle.sq_checks.proofs.tags.acl_at.Goals as goal
 
 here : (c : goal.After-index-acls-acl)
     → slice_get c.args.config.now.acls c.args.acl ≡ Some c.index-acls-acl.result

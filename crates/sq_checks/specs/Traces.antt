@@ -8,8 +8,8 @@ use Rattle.sq_rules.specs.Walks.{Seen, acl_walk, is_hit, is_miss, term_seen}
 use Rattle.sq_rules.specs.declared.configs.Rule.{Rule}
 use Rattle.sq_rules.specs.declared.configs.Term.{Term}
 use Rattle.sq_rules.specs.declared.values.TermValue.{TermValue}
-use Rattle.sq_tags.specs.declared.tags.TagInputs.{TagInputs}
-use Rattle.sq_tags.specs.declared.tags.Traced.{Traced}
+use Rattle.sq_checks.specs.declared.tags.TagInputs.{TagInputs}
+use Rattle.sq_checks.specs.declared.tags.Traced.{Traced}
 
 -- something with its value and the first tag of its walk
 abbrev pub trace : (ℕ → Option (List ℕ)) → Seen → Traced

@@ -4,8 +4,8 @@ use Rattle.sq_rules.specs.Tags.{tag_in}
 use Rattle.sq_rules.specs.Keys.{key_text}
 use Rattle.sq_rules.specs.Values.{answer_value}
 use Rattle.sq_rules.specs.declared.values.TermValue.TheVariants.{Need}
-use Rattle.sq_tags.proofs.TagLaws.{answer_by}
-use Rattle.sq_tags.proofs.tags.asked_traced.Goals as goal
+use Rattle.sq_checks.proofs.TagLaws.{answer_by}
+use Rattle.sq_checks.proofs.tags.asked_traced.Goals as goal
 
 pub returns-in-Some-clause-value : goal.returns-in-Some-clause-value
 returns-in-Some-clause-value c =

@@ -1,4 +1,4 @@
-use Rattle.sq_tags.proofs.tags.tag_of.Given as goal
+use Rattle.sq_checks.proofs.tags.tag_of.Given as goal
 
 -- the ledger of the blank that was just made
 abbrev pub ghosts-rules_tag : goal.ghosts-rules_tag

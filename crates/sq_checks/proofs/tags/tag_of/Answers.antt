@@ -1,8 +1,8 @@
 use Rattle.std.proofs.Common.{◌≡◌, IfOk, subst, sym, ap, ◌∙◌}
-use Rattle.sq_tags.specs.Traces.{rules_tag}
-use Rattle.sq_tags.specs.declared.tags.TagInputs.{TagInputs}
-use Rattle.sq_tags.proofs.TagLaws.{rules_are}
-use Rattle.sq_tags.proofs.tags.tag_of.Goals as goal
+use Rattle.sq_checks.specs.Traces.{rules_tag}
+use Rattle.sq_checks.specs.declared.tags.TagInputs.{TagInputs}
+use Rattle.sq_checks.proofs.TagLaws.{rules_are}
+use Rattle.sq_checks.proofs.tags.tag_of.Goals as goal
 
 inputs_of : goal.After-rules_tag → TagInputs
 inputs_of c = record {

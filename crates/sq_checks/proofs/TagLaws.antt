@@ -12,10 +12,10 @@ use Rattle.sq_rules.specs.declared.configs.Term.{Term}
 use Rattle.sq_rules.specs.declared.values.TermValue.{TermValue}
 use Rattle.sq_rules.specs.declared.values.TermValue.TheVariants.{Hit, Miss, Fault, Need}
 use Rattle.sq_eval.specs.Takings.{answers_for}
-use Rattle.sq_tags.specs.Traces.{all_traced, line_traced, rules_tag, some_traced, tags_in, tags_while, taken_by_tags, term_traced, trace}
-use Rattle.sq_tags.specs.declared.tags.TagInputs.{TagInputs}
-use Rattle.sq_tags.specs.declared.tags.Traced.{Traced}
-use Rattle.sq_tags.proofs.SeenLaws.{acl_seen, term_over_members}
+use Rattle.sq_checks.specs.Traces.{all_traced, line_traced, rules_tag, some_traced, tags_in, tags_while, taken_by_tags, term_traced, trace}
+use Rattle.sq_checks.specs.declared.tags.TagInputs.{TagInputs}
+use Rattle.sq_checks.specs.declared.tags.Traced.{Traced}
+use Rattle.sq_checks.proofs.SeenLaws.{acl_seen, term_over_members}
 
 -- tags one after the other
 

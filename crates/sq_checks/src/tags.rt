@@ -8,7 +8,7 @@ ghost use Rattle.sq_rules.specs.Facts.{facts_of};
 ghost use Rattle.sq_rules.specs.Keys.{key_text};
 ghost use Rattle.sq_rules.specs.Values.{answer_for, answer_value};
 ghost use Rattle.sq_eval.specs.Takings.{answers_for};
-ghost use Rattle.sq_tags.specs.Traces as traces;
+ghost use Rattle.sq_checks.specs.Traces as traces;
 
 use sq_base::{Answer, Answers, Copying, Pair, Steps, Text, WantOfMemory, What};
 use sq_eval::{turned, value_if, what_value};
@@ -281,7 +281,7 @@ fn rules_tag<L: Ledger>(
 /// The tag that the helpers of a check named, over the facts of it and the answers that it has: the value of the first
 /// pair `tag` of the first external term of its walk whose answer is OK or ERR and has such a pair. It takes memory for a
 /// key at each external acl that it reaches, and for tags.
-pub fn tag_of<'a>(
+pub(crate) fn tag_of<'a>(
     alloc: Global,
     config: &'a Config,
     facts: &'a Facts,

@@ -2,9 +2,9 @@ use Rattle.std.proofs.Common.{◌≡◌, ◌+◌, ◌*◌, true, map, drop}
 use Rattle.std.specs.List.{list_all}
 use Rattle.std.specs.Option.{option_or}
 use Rattle.sq_rules.specs.Configurations.{are_known}
-use Rattle.sq_tags.specs.Traces.{line_traced, some_traced, term_traced}
-use Rattle.sq_tags.proofs.TagLaws.{traced}
-use Rattle.sq_tags.proofs.tags.+tags.Given as goal
+use Rattle.sq_checks.specs.Traces.{line_traced, some_traced, term_traced}
+use Rattle.sq_checks.proofs.TagLaws.{traced}
+use Rattle.sq_checks.proofs.tags.+tags.Given as goal
 
 -- members stand before their group
 abbrev pub decreases-term_traced : goal.decreases-term_traced

@@ -1,2 +1,0 @@
-mod SeenLaws
-mod TagLaws
