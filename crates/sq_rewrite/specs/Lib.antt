@@ -1,6 +1,7 @@
 -- Definitions that the contracts cite.
 pub mod Calls
 pub mod Rewritings
+pub mod Rounds
 pub mod States
 pub mod Statuses
 pub mod Transcripts

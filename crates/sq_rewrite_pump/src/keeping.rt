@@ -4,7 +4,7 @@ use crate::lock_rewriter::LockRewriter;
 use crate::rewriter_shelf::RewriterShelf;
 use sq_keeper::KeeperEnd;
 use sq_outside::{Clock, Source};
-use sq_rewriter_hall::RewriterRoom;
+use sq_rewrite::RewriterRoom;
 use std::alloc::Global;
 use std::sync::Wait;
 use std::thread;

@@ -3,8 +3,7 @@ ghost use Rattle.std.specs.Prelude.{None};
 
 use crate::calls::RewriterCalls;
 use sq_base::ProcNo;
-use sq_rewrite::{Got, RewriteAct, RewriteFault};
-use sq_rewriter_hall::RewriterRoom;
+use sq_rewrite::{Got, RewriteAct, RewriteFault, RewriterRoom};
 use std::alloc::Global;
 use std::sync::Wait;
 

@@ -8,7 +8,7 @@ use crate::turns::RewriterTurn;
 use crate::unread::UnreadHalf;
 use sq_base::Texts;
 use sq_outside::{Another, Clock, Source, Spawner};
-use sq_rewriter_hall::RewriterRoom;
+use sq_rewrite::RewriterRoom;
 use std::alloc::Global;
 use std::sync::Wait;
 use std::thread;

@@ -11,8 +11,7 @@ use sq_conn_policy::{Hub, HubFault};
 use sq_model::Stepped;
 use sq_outside::{Clock, raised, raised_by};
 use sq_pools::{ChooseFault, Seat, TagSeat};
-use sq_rewrite::{RewriteFault, Rewriting};
-use sq_rewriter_hall::RewriterRoom;
+use sq_rewrite::{RewriteFault, RewriterRoom, Rewriting};
 use sq_rules::Config;
 use sq_shared::{
     Asks, Grants, Ledgers, Refusals, Room, holds, number_told, wait_answered, wake_after_step,

@@ -1,7 +1,7 @@
 //! What the sessions of workers share.
 use sq_bank::Bank;
 use sq_calls::DeskCalls;
-use sq_rewriter_hall::RewriterRoom;
+use sq_rewrite::RewriterRoom;
 use sq_shared::{Grants, Ledgers, Room};
 use std::sync::Mutex;
 

@@ -1,9 +1,12 @@
 //! The rewriter's lock. Each call is one hold of it, in which it makes the one call of its name with the arguments that it was
 //! handed; then it wakes whom that concerns. Nothing is proved here of what lies under the lock, and nothing is said of when a
 //! thread wakes.
+use crate::acts::RewriteAct;
+use crate::faults::RewriteFault;
 use crate::rewriter_hall::RewriterHall;
+use crate::rewritings::Rewriting;
 use sq_base::{Addr, ProcNo, QuestionNo, Request};
-use sq_rewrite::{Got, RewriteAct, RewriteFault, Rewriting};
+use sq_farm::Got;
 use std::alloc::Global;
 use std::array;
 use std::sync::{Condvar, Mutex, Wait};

@@ -3,10 +3,14 @@ ghost use Rattle.std.specs.Prelude.{◌≡◌, true, IfOk, IfErr, IfSome, IfNone
 ghost use Rattle.std.specs.Option.{option_map};
 ghost use Rattle.sq_rewrite.specs.Calls.{Asked, Acted, Started, StartFailed, Wrote, Died, Took};
 ghost use Rattle.sq_rewrite.specs.States.{Answers, Refuses, act_due, after, ask_refusal, fail_refusal, proc_refusal, row_at, start_refusal, take_refusal, taken_of};
-ghost use Rattle.sq_rewriter_hall.specs.Rounds.{one_more};
+ghost use Rattle.sq_rewrite.specs.Rounds.{one_more};
 
+use crate::acts::RewriteAct;
+use crate::faults::RewriteFault;
+use crate::rewriters::Rewriter;
+use crate::rewritings::Rewriting;
 use sq_base::{Addr, ProcNo, QuestionNo, Request};
-use sq_rewrite::{Got, RewriteAct, RewriteFault, Rewriter, Rewriting};
+use sq_farm::Got;
 use std::alloc::Global;
 
 /// A rewriter, how often an act of it may have become due or a keeper have ended, how often a question to it may have ended,
