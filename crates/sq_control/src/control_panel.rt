@@ -4,10 +4,10 @@ ghost use Rattle.std.specs.Prelude.{◌≡◌, ◌<◌};
 use crate::attending::{Beside, attend};
 use crate::control::Control;
 use crate::panel::{Monitor, Panel, PanelEnd};
-use sq_bank::Bank;
 use sq_base::{EpochNo, Moment, Text};
 use sq_calls::DeskCalls;
 use sq_outside::{Files, Sink, Source};
+use sq_pools::Bank;
 use sq_rules::Config;
 use sq_shared::{ControlDesk, Grants, Ledgers, Makes, Refusals, Room, is_stopped};
 use std::alloc::Global;
@@ -35,8 +35,8 @@ impl<'a, R: Wait, D: DeskCalls, B: Ledgers, M: Monitor> Beside for Locks<'a, R, 
 
     // Want of memory is passed over: pools of either kind make the generation where a seat is chosen.
     fn renew(&self, epoch: EpochNo, config: &Arc<Config>, now: Moment) {
-        let _ = sq_bank::renew(self.rt, self.alloc, self.bank, epoch, config, now);
-        let _ = sq_bank::renew_tags(self.rt, self.alloc, self.bank, epoch, config, now);
+        let _ = sq_pools::renew(self.rt, self.alloc, self.bank, epoch, config, now);
+        let _ = sq_pools::renew_tags(self.rt, self.alloc, self.bank, epoch, config, now);
     }
 
     fn must_end(&self) -> bool {

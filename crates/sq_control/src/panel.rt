@@ -3,10 +3,10 @@ ghost use Rattle.std.specs.Prelude.{◌≡◌, ℕ, List, ◌<◌, true};
 ghost use Rattle.std.specs.declared.option.Option.{Option};
 ghost use Rattle.sq_outside.specs.World.{GivesMoment};
 
-use sq_bank::Bank;
 use sq_base::Moment;
 use sq_calls::DeskCalls;
 use sq_outside::Clock;
+use sq_pools::Bank;
 use sq_shared::{Grants, Ledgers, Makes, Refusals, Room};
 use std::sync::ledger::Share;
 use std::sync::{Mutex, Wait};

@@ -3,17 +3,16 @@ ghost use Rattle.std.specs.Prelude.{◌≡◌, [], IfOk, IfErr, IfSome, Some, mi
 ghost use Rattle.std.specs.Option.{option_map};
 ghost use Rattle.sq_desk.specs.Calling.{IsUnbegun};
 ghost use Rattle.sq_outside.specs.Causes.{count_limit};
-ghost use Rattle.sq_bank.specs.Granting.{granted_together};
+ghost use Rattle.sq_pools.specs.Granting.{granted_together};
 ghost use Rattle.sq_server.specs.Beginning.{HasCountedNone};
 
 use crate::starting::Start;
 use crate::watched::{Before, Watched};
-use sq_bank::Bank;
 use sq_base::{Copying, EpochNo, Moment, WantOfMemory};
 use sq_calls::{DeskCalls, DeskFault};
 use sq_desk::{Desk, DeskStart};
 use sq_journal::Journal;
-use sq_pools::{Pools, TagPools};
+use sq_pools::{Bank, Pools, TagPools};
 use sq_rewrite::{Rewriter, RewriterHall, RewriterRoom};
 use sq_rules::Config;
 use sq_server_threads::{OpenedBooks, RewriterStart, Wholes};

@@ -3,7 +3,7 @@ ghost use Rattle.std.specs.Prelude.{◌≡◌, ◌+◌, ◌<◌, ◌≤◌, ◌^
 ghost use Rattle.std.specs.Option.{ForSome};
 ghost use Rattle.sq_outside.specs.Causes.{Rose, count_limit};
 ghost use Rattle.sq_shared.specs.Books.{asks_in};
-ghost use Rattle.sq_bank.specs.Granting.{granted_together};
+ghost use Rattle.sq_pools.specs.Granting.{granted_together};
 ghost use Rattle.sq_machine.specs.Readings.{current};
 ghost use Rattle.sq_desk.specs.Calling.{IsUnbegun};
 ghost use Rattle.sq_calls.specs.Legality.{IsLegal};

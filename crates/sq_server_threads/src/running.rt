@@ -4,16 +4,15 @@ ghost use Rattle.std.specs.Option.{ForSome, option_map};
 ghost use Rattle.std.specs.Thread.{IsSend};
 ghost use Rattle.sq_outside.specs.Causes.{count_limit};
 ghost use Rattle.sq_shared.specs.Books.{asks_in};
-ghost use Rattle.sq_bank.specs.Granting.{granted_together};
+ghost use Rattle.sq_pools.specs.Granting.{granted_together};
 ghost use Rattle.sq_machine.specs.Readings.{current};
 
-use sq_bank::Bank;
 use sq_base::Texts;
 use sq_calls::DeskCalls;
 use sq_control::{ListenerMonitor, Panel, PanelEnd};
 use sq_helper_threads::{KeeperParts, PumpParts, PumpTools, Shelf, pump_all};
 use sq_outside::{Another, Clock, Listener, Spawner, Stopper};
-use sq_pools::{Pools, TagPools};
+use sq_pools::{Bank, Pools, TagPools};
 use sq_rewrite::RewriterRoom;
 use sq_rewrite_pump::{RewriterShelf, rewrite_all};
 use sq_shared::{

@@ -3,14 +3,13 @@ ghost use Rattle.std.specs.Prelude.{◌≡◌, ◌<◌, ◌+◌, ◌-◌, ◌^�
 ghost use Rattle.sq_outside.specs.Causes.{count_limit, raised};
 ghost use Rattle.sq_workers.specs.HubFaults.{hub_fault, hub_gave};
 
-use sq_bank::Bank;
 use sq_base::{Addr, CheckNo, ConnNo, EpochNo, Moment, QuestionNo, Request, Text};
 use sq_calls::{DeskCalls, DeskFault};
 use sq_checks::Record;
 use sq_conn_policy::{Hub, HubFault};
 use sq_model::Stepped;
 use sq_outside::{Clock, raised, raised_by};
-use sq_pools::{ChooseFault, Seat, TagSeat};
+use sq_pools::{Bank, ChooseFault, Seat, TagSeat};
 use sq_rewrite::{RewriteFault, RewriterRoom, Rewriting};
 use sq_rules::Config;
 use sq_shared::{
@@ -293,7 +292,7 @@ impl<'a, R: Wait, D: DeskCalls, B: Ledgers, C: Clock + Drop> Hub for LockHub<'a,
         addr: Addr,
     ) -> Result<Seat, ChooseFault> {
         let now = self.clock.now();
-        sq_bank::choose(self.rt, alloc, self.bank, epoch, config, pool, addr, now)
+        sq_pools::choose(self.rt, alloc, self.bank, epoch, config, pool, addr, now)
     }
 
     #[tactic(auto, using(crate::proofs::HubLaws::hub_grants))]
@@ -307,16 +306,16 @@ impl<'a, R: Wait, D: DeskCalls, B: Ledgers, C: Clock + Drop> Hub for LockHub<'a,
             gains_at,
             ..
         } = self;
-        let given = sq_bank::grant(*rt, *bank, seat, wanted, now, granted);
+        let given = sq_pools::grant(*rt, *bank, seat, wanted, now, granted);
         *grants = raised_by(*grants, given);
         if given == 0 {
-            *gains_at = sq_bank::gains_at(*rt, *bank, seat, now);
+            *gains_at = sq_pools::gains_at(*rt, *bank, seat, now);
         }
         given
     }
 
     fn leave(&mut self, seat: Seat) {
-        sq_bank::leave(self.rt, self.bank, seat);
+        sq_pools::leave(self.rt, self.bank, seat);
     }
 
     fn choose_tag(
@@ -328,7 +327,7 @@ impl<'a, R: Wait, D: DeskCalls, B: Ledgers, C: Clock + Drop> Hub for LockHub<'a,
         tag: &Text,
     ) -> Result<TagSeat, ChooseFault> {
         let now = self.clock.now();
-        sq_bank::choose_tag(self.rt, alloc, self.bank, epoch, config, pool, tag, now)
+        sq_pools::choose_tag(self.rt, alloc, self.bank, epoch, config, pool, tag, now)
     }
 
     #[tactic(auto, using(crate::proofs::HubLaws::hub_grants))]
@@ -342,16 +341,16 @@ impl<'a, R: Wait, D: DeskCalls, B: Ledgers, C: Clock + Drop> Hub for LockHub<'a,
             gains_at,
             ..
         } = self;
-        let given = sq_bank::grant_tag(*rt, *bank, seat, wanted, now, granted);
+        let given = sq_pools::grant_tag(*rt, *bank, seat, wanted, now, granted);
         *grants = raised_by(*grants, given);
         if given == 0 {
-            *gains_at = sq_bank::tag_gains_at(*rt, *bank, seat, now);
+            *gains_at = sq_pools::tag_gains_at(*rt, *bank, seat, now);
         }
         given
     }
 
     fn leave_tag(&mut self, seat: TagSeat) {
-        sq_bank::leave_tag(self.rt, self.bank, seat);
+        sq_pools::leave_tag(self.rt, self.bank, seat);
     }
 
     fn wait(&mut self) {

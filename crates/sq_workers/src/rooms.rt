@@ -1,6 +1,6 @@
 //! What the sessions of workers share.
-use sq_bank::Bank;
 use sq_calls::DeskCalls;
+use sq_pools::Bank;
 use sq_rewrite::RewriterRoom;
 use sq_shared::{Grants, Ledgers, Room};
 use std::sync::Mutex;

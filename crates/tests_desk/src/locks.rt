@@ -3,10 +3,9 @@ ghost use Rattle.std.specs.Prelude.{◌≡◌};
 ghost use Rattle.std.specs.Option.{ForSome};
 ghost use Rattle.sq_shared.specs.Books.{AreCounted};
 
-use sq_bank::Bank;
 use sq_base::{EpochNo, Moment};
 use sq_calls::DeskCalls;
-use sq_pools::{Pools, TagPools};
+use sq_pools::{Bank, Pools, TagPools};
 use sq_rules::Config;
 use sq_shared::{Asks, Grants, Hall, Ledgers, Makes, Refusals, Room};
 use std::alloc::Global;

@@ -3,11 +3,13 @@ ghost use Rattle.std.specs.Prelude.{◌≡◌, ◌+◌, ◌<◌, ◌≤◌, ◌=
 ghost use Rattle.sq_pools.specs.Basins.{grant_in, granted_limit, has_pool, has_tag_pool, is_dry, made_in, seat_in, HasLeft, IsChosen, IsGranted, IsRenewed, IsTagChosen, IsTagRenewed};
 ghost use Rattle.sq_pools.specs.declared.pools.ChooseFault.TheVariants as fault;
 ghost use Rattle.sq_machine.specs.Limits.{last_number};
-ghost use Rattle.sq_bank.specs.Granting.{granted_together};
+ghost use Rattle.sq_pools.specs.Granting.{granted_together};
 
+use crate::pools::{ChooseFault, Pools};
+use crate::seats::Seat;
+use crate::tag_pools::{TagPools, TagSeat};
 use crate::turns::Turns;
 use sq_base::{Addr, EpochNo, Moment, Text, WantOfMemory};
-use sq_pools::{ChooseFault, Pools, Seat, TagPools, TagSeat};
 use sq_rules::Config;
 use std::alloc::Global;
 use std::sync::Arc;
@@ -57,7 +59,7 @@ fn next_second<F: Fn(Moment) -> u64>(now: Moment, second_at: &F) -> Moment
 }
 
 impl<G: Ledger> Bank<G> {
-    ghost use Rattle.sq_bank.specs.BankViews.{pools_of, tags_of};
+    ghost use Rattle.sq_pools.specs.BankViews.{pools_of, tags_of};
 
     /// Pools of both kinds, and the book of what they granted so far.
     pub fn new(pools: Pools, tags: TagPools, grants: Book<G>) -> Bank<G>

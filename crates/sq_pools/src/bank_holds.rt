@@ -5,8 +5,10 @@ ghost use Rattle.std.specs.Prelude.{◌≡◌, ◌+◌, ◌<◌, ◌≤◌, true
 ghost use Rattle.sq_pools.specs.Basins.{has_pool, has_tag_pool};
 
 use crate::bank::Bank;
+use crate::pools::ChooseFault;
+use crate::seats::Seat;
+use crate::tag_pools::TagSeat;
 use sq_base::{Addr, EpochNo, Moment, Text, WantOfMemory};
-use sq_pools::{ChooseFault, Seat, TagSeat};
 use sq_rules::Config;
 use std::alloc::Global;
 use std::sync::ledger::{Ledger, Share};

@@ -1,6 +1,6 @@
 -- The pools of a bank.
 use Rattle.sq_pools.specs.Basins.{Basin}
-use Rattle.sq_bank.specs.declared.bank.Bank.{Bank}
+use Rattle.sq_pools.specs.declared.bank.Bank.{Bank}
 
 -- those with buckets by addresses
 abbrev pub pools_of : {G : Type 0} → Bank G → Basin

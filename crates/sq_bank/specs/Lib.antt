@@ -1,2 +1,0 @@
-pub mod BankViews
-pub mod Granting
