@@ -1,1 +1,3 @@
 mod BoardLaws
+mod EntryLaws
+mod LineLaws

@@ -1,2 +1,9 @@
 pub mod Boards
+pub mod Entries
 pub mod Halves
+pub mod Handing
+pub mod KeeperHalves
+pub mod LineViews
+pub mod Pumps
+pub mod ReaderViews
+pub mod Turning

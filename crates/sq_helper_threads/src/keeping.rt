@@ -1,9 +1,11 @@
 //! What a keeper thread does.
 use crate::board::Task;
-use crate::halves::ProcOut;
+use crate::halves::AskerOut;
+use crate::keeper_halves::ProcOut;
+use crate::lines::ServeLines;
+use crate::reader::Reader;
 use crate::site::Site;
 use sq_calls::DeskCalls;
-use sq_helper_pump::{AskerOut, Reader, ServeLines};
 use sq_keeper::{KeeperEnd, LineDesk};
 use sq_outside::{Clock, Resolver, Source};
 use sq_shared::{Ledgers, LockDesk, tell_end};

@@ -6,14 +6,33 @@
 //! before its next turn. A keeper that could not be started is tried again before each turn; where nothing else is due by then, the
 //! process is ended as if it had died. The two share a `Shelf`.
 //! It claims nothing of when a thread gets on.
+//!
+//! The pump goes a turn at a time. `ServePump` performs the acts of a desk: it starts programs, writes questions to them, and
+//! ends those whose output has ended. `Reader` is the half of a process that is read, with its number. `ServeLines` hands a
+//! desk its lines and its death, each at a moment of the clock. What a turn did, and at which moment it noted what, its answer
+//! says.
 #![tactic(auto)]
 
+mod asking;
 mod board;
 mod halves;
+mod keeper_halves;
 mod keeping;
+mod lines;
+mod pump;
 mod pumping;
+mod reader;
+mod reporting;
 mod shelf;
 mod site;
+mod starting;
+mod turning;
+mod turns;
 
+pub use halves::{AskerOut, ProcIn};
+pub use lines::ServeLines;
+pub use pump::ServePump;
 pub use pumping::{KeeperParts, PumpParts, PumpTools, pump_all};
+pub use reader::Reader;
 pub use shelf::Shelf;
+pub use turns::{Left, Turn};

@@ -3,11 +3,12 @@ ghost use Rattle.std.specs.Prelude.{◌≡◌, ◌<◌};
 ghost use Rattle.std.specs.Thread.{IsSend};
 
 use crate::board::Task;
-use crate::halves::ProcOut;
+use crate::keeper_halves::ProcOut;
+use crate::pump::ServePump;
 use crate::shelf::Shelf;
 use crate::site::Site;
+use crate::turns::Turn;
 use sq_calls::{DeskCalls, HelperCalls};
-use sq_helper_pump::{ServePump, Turn};
 use sq_outside::{Another, Clock, Resolver, Source, Spawner};
 use sq_shared::{HelperTypes, Ledgers, LockDesk, Refusals, Room, changes, wait_due};
 use std::alloc::Global;

@@ -1,7 +1,7 @@
 //! The shelf: what the pump and the keepers share. Each call of `LockedBoard` is one hold of its lock, in which it makes the one
 //! call of its name. Nothing is proved here of what lies under the lock.
 use crate::board::{Board, OfProcess, Task};
-use crate::halves::ProcOut;
+use crate::keeper_halves::ProcOut;
 use sq_base::ProcNo;
 use sq_shared::Ledgers;
 use std::alloc::Global;

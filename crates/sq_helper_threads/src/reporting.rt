@@ -1,0 +1,158 @@
+//! The entries that a pump still owes the desk.
+ghost use Rattle.std.specs.Prelude.{◌≡◌, None};
+ghost use Rattle.sq_helper_threads.specs.Pumps.{step};
+ghost use Rattle.sq_helper_threads.specs.Turning.{PumpCounts, IsAdmitted, IsTakenUp, Reports, SameHalves, SameSpawner};
+
+use crate::halves::{AskerOut, ProcIn};
+use crate::pump::ServePump;
+use crate::reader::Reader;
+use crate::turns::{Left, Turn};
+use sq_base::{EpochNo, Moment, ProcNo};
+use sq_calls::{DeskFault, HelperCalls};
+use sq_machine::Act;
+use sq_outside::{Out, Spawner};
+use std::sync::Wait;
+
+impl<'a, S: Spawner, K: HelperCalls, R: Wait> ServePump<'a, S, K, R> {
+    // The half of this process failed in this act.
+    pub(crate) fn report_died(&mut self, proc: ProcNo, act: Act, now: Moment) -> Turn
+        requires { self.old.left ≡ None }
+        ensures reports { Reports (Left.Died proc act) now self.old.told self.old.refused result
+            self.new }
+        ensures spawner { SameSpawner self.old self.new }
+        ensures halves { SameHalves self.old self.new }
+        ensures counts { PumpCounts self.old self.new }
+    {
+        match self.desk.died(proc, now) {
+            Ok(()) | Err(DeskFault::Engine(_)) => Turn::Acted(act),
+            Err(DeskFault::WantOfMemory) => {
+                self.left = Some(Left::Died { proc, act });
+                Turn::WantOfMemory
+            }
+            Err(_) => Turn::Ended,
+        }
+    }
+
+    // The spawner failed this start.
+    pub(crate) fn report_failed(&mut self, epoch: EpochNo, class: u32, now: Moment) -> Turn
+        requires { self.old.left ≡ None }
+        ensures reports { Reports (Left.Failed epoch class) now self.old.told self.old.refused
+            result self.new }
+        ensures spawner { SameSpawner self.old self.new }
+        ensures halves { SameHalves self.old self.new }
+        ensures counts { PumpCounts self.old self.new }
+    {
+        match self.desk.start_failed(self.alloc, epoch, class, now) {
+            Ok(()) | Err(DeskFault::Engine(_)) => Turn::Acted(Act::Start { epoch, class }),
+            Err(DeskFault::WantOfMemory) => {
+                self.left = Some(Left::Failed { epoch, class });
+                Turn::WantOfMemory
+            }
+            Err(_) => Turn::Ended,
+        }
+    }
+
+    // This process was started.
+    pub(crate) fn admit(
+        &mut self,
+        epoch: EpochNo,
+        class: u32,
+        from: S::ChildOut,
+        mut to: ProcIn<'a, S::ChildIn, R>,
+        now: Moment,
+    ) -> Turn
+        requires { self.old.left ≡ None }
+        ensures reports { Reports (Left.Started epoch class from to.entry) now self.old.told
+            self.old.refused result self.new }
+        ensures admitted { IsAdmitted epoch class from to.entry
+            (step now self.old result self.new) }
+        ensures spawner { SameSpawner self.old self.new }
+        ensures counts { PumpCounts self.old self.new }
+    {
+        if self.pipes.reserve().is_err() || self.readers.reserve(1).is_err() {
+            self.left = Some(Left::Started {
+                epoch,
+                class,
+                from,
+                to,
+            });
+            return Turn::WantOfMemory;
+        }
+        match self.desk.started(self.alloc, epoch, class, now) {
+            Ok(proc) => {
+                self.pipes.put(proc, to);
+                self.readers.push_reserved(Reader::new(proc, from));
+                Turn::Acted(Act::Start { epoch, class })
+            }
+            Err(DeskFault::Engine(_)) => {
+                to.close();
+                Turn::Acted(Act::Start { epoch, class })
+            }
+            Err(DeskFault::WantOfMemory) => {
+                self.left = Some(Left::Started {
+                    epoch,
+                    class,
+                    from,
+                    to,
+                });
+                Turn::WantOfMemory
+            }
+            Err(_) => {
+                to.close();
+                Turn::Ended
+            }
+        }
+    }
+
+    // A thread is to answer look-ups through these halves.
+    pub(crate) fn take_up(
+        &mut self,
+        epoch: EpochNo,
+        class: u32,
+        from: AskerOut<'a, R>,
+        mut to: ProcIn<'a, S::ChildIn, R>,
+        now: Moment,
+    ) -> Turn
+        requires { self.old.left ≡ None }
+        ensures reports { Reports (Left.Asked epoch class from.entry to.entry) now self.old.told
+            self.old.refused result self.new }
+        ensures taken { IsTakenUp epoch class from.entry to.entry
+            (step now self.old result self.new) }
+        ensures spawner { SameSpawner self.old self.new }
+        ensures counts { PumpCounts self.old self.new }
+    {
+        if self.pipes.reserve().is_err() || self.asking.reserve(1).is_err() {
+            self.left = Some(Left::Asked {
+                epoch,
+                class,
+                from,
+                to,
+            });
+            return Turn::WantOfMemory;
+        }
+        match self.desk.started(self.alloc, epoch, class, now) {
+            Ok(proc) => {
+                self.pipes.put(proc, to);
+                self.asking.push_reserved(Reader::new(proc, from));
+                Turn::Acted(Act::Start { epoch, class })
+            }
+            Err(DeskFault::Engine(_)) => {
+                to.close();
+                Turn::Acted(Act::Start { epoch, class })
+            }
+            Err(DeskFault::WantOfMemory) => {
+                self.left = Some(Left::Asked {
+                    epoch,
+                    class,
+                    from,
+                    to,
+                });
+                Turn::WantOfMemory
+            }
+            Err(_) => {
+                to.close();
+                Turn::Ended
+            }
+        }
+    }
+}
