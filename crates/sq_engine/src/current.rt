@@ -4,10 +4,9 @@ ghost use Rattle.sq_checks.specs.OpenChecks.{begun_parts};
 
 use sq_base::{ConnNo, EpochNo, WantOfMemory};
 use sq_checks::OpenCheck;
-use sq_facts::read_facts;
 use sq_frames::Slots;
 use sq_rules::Sight;
-use sq_urlmatch::Setup;
+use sq_urlmatch::{Setup, read_facts};
 use std::alloc::Global;
 use std::marker::Model;
 use std::sync::Arc;

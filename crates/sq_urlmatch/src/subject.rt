@@ -3,7 +3,7 @@ ghost use Rattle.std.specs.Prelude.{◌≡◌, IfOk, true};
 ghost use Rattle.std.specs.Cow.{cow_slice_items};
 ghost use Rattle.std.specs.List.{list_any};
 ghost use Rattle.percent_encoding.specs.Percent.{percent_decode};
-ghost use Rattle.sq_facts.specs.Patterns.{acl_has_patterns};
+ghost use Rattle.sq_urlmatch.specs.Patterns.{acl_has_patterns};
 
 use percent_encoding::percent_decode;
 use sq_base::{Text, WantOfMemory};

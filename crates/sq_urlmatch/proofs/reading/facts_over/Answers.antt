@@ -1,7 +1,7 @@
 use Rattle.std.proofs.Common.{◌∙◌, sym}
 use Rattle.sq_rules.specs.Facts.{facts_of}
-use Rattle.sq_facts.proofs.FactLaws.{take_more}
-use Rattle.sq_facts.proofs.reading.facts_over.Goals as goal
+use Rattle.sq_urlmatch.proofs.FactLaws.{take_more}
+use Rattle.sq_urlmatch.proofs.reading.facts_over.Goals as goal
 
 pub loop-place-preserved : goal.loop-place-preserved
 loop-place-preserved c =

@@ -15,7 +15,7 @@ use Rattle.sq_rules.specs.declared.configs.Body.TheVariants as body
 use Rattle.sq_rules.specs.declared.leaves.Leaf.TheVariants as leaf
 use Rattle.sq_rules.specs.declared.sights.Sight.{Sight}
 use Rattle.sq_urlmatch.specs.Found.{finds_at, finds_in, finds_of}
-use Rattle.sq_facts.specs.Patterns.{body_has_patterns, acl_has_patterns}
+use Rattle.sq_urlmatch.specs.Patterns.{body_has_patterns, acl_has_patterns}
 
 -- a test that asks patterns was left open because of them
 pub asks_patterns : (has : Bool) (fact : Bool) → None ≡ (if has then None else Some fact) → has ≡ true

@@ -1,6 +1,6 @@
 use Rattle.std.proofs.Common.{◌≡◌, false, nat_lt, arith, sym, ◌∙◌}
-use Rattle.sq_facts.proofs.DayLaws.{no_day}
-use Rattle.sq_facts.proofs.clients.has_day.Goals as goal
+use Rattle.sq_urlmatch.proofs.DayLaws.{no_day}
+use Rattle.sq_urlmatch.proofs.clients.has_day.Goals as goal
 
 pub returns-else-day-lt8 : goal.returns-else-day-lt8
 returns-else-day-lt8 c =

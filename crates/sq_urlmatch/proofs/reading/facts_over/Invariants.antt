@@ -1,6 +1,6 @@
 use Rattle.std.proofs.Common.{◌≡◌, take, length}
 use Rattle.sq_rules.specs.Facts.{facts_of}
-use Rattle.sq_facts.proofs.reading.facts_over.Given as goal
+use Rattle.sq_urlmatch.proofs.reading.facts_over.Given as goal
 
 -- the facts so far are those of the acls so far
 abbrev pub invariant-loop-place : goal.invariant-loop-place

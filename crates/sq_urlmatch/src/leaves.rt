@@ -5,13 +5,13 @@ ghost use Rattle.percent_encoding.specs.Percent.{percent_decode};
 ghost use Rattle.sq_rules.specs.Facts.{acl_fact, facts_of};
 ghost use Rattle.sq_rules.specs.Leaves.{holds, in_ranges};
 ghost use Rattle.sq_urlmatch.specs.Values.{domains_at, domains_of_leaf, ports_at, ports_of_leaf, ranges_at, ranges_of_leaf};
-ghost use Rattle.sq_facts.specs.Patterns.{acl_has_patterns, is_plain_leaf};
+ghost use Rattle.sq_urlmatch.specs.Patterns.{acl_has_patterns, is_plain_leaf};
 
 use crate::clients::{maxconn_has, time_has};
 use crate::requests::{method_has, proto_has};
+use crate::setup::Setup;
 use sq_base::{Addr, WantOfMemory};
 use sq_rules::{Acl, Body, Leaf, Sight};
-use sq_urlmatch::Setup;
 use std::alloc::Global;
 
 /// Whether the acl at a place holds of what a check sees; of an acl that is no leaf, false.

@@ -1,9 +1,9 @@
 use Rattle.std.proofs.Common.{◌≡◌, ◌∙◌, ap, get_or, sym, subst, Some}
 use Rattle.std.proofs.lemmas.Option.{slice_get-get_or}
 use Rattle.sq_rules.specs.Facts.{acl_fact}
-use Rattle.sq_facts.proofs.FactLaws.{asks_patterns, ok_then, pattern_fact}
-use Rattle.sq_facts.specs.Patterns.{acl_has_patterns}
-use Rattle.sq_facts.proofs.leaves.fact_at.Goals as goal
+use Rattle.sq_urlmatch.proofs.FactLaws.{asks_patterns, ok_then, pattern_fact}
+use Rattle.sq_urlmatch.specs.Patterns.{acl_has_patterns}
+use Rattle.sq_urlmatch.proofs.leaves.fact_at.Goals as goal
 
 pub returns-in-None-clause-fact : goal.returns-in-None-clause-fact
 returns-in-None-clause-fact c =

@@ -3,13 +3,13 @@ ghost use Rattle.std.specs.Prelude.{◌≡◌, true, IfOk};
 ghost use Rattle.std.specs.List.{list_any};
 ghost use Rattle.percent_encoding.specs.Percent.{percent_decode};
 ghost use Rattle.sq_rules.specs.Facts.{facts_of};
-ghost use Rattle.sq_facts.specs.Patterns.{acl_has_patterns};
+ghost use Rattle.sq_urlmatch.specs.Patterns.{acl_has_patterns};
 
 use crate::leaves::fact_at;
+use crate::setup::Setup;
 use crate::subject::subject_of;
 use sq_base::WantOfMemory;
 use sq_rules::{Facts, Sight};
-use sq_urlmatch::Setup;
 use std::alloc::Global;
 
 /// Whether each leaf acl holds of what a check sees, or want of memory. It takes memory for the facts, for

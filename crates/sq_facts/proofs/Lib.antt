@@ -1,3 +1,0 @@
-mod DayLaws
-mod FactLaws
-mod SchemeLaws
