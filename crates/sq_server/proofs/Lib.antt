@@ -1,3 +1,5 @@
 mod BeginLaws
+mod ServiceLaws
 mod SetupLaws
 mod ThreadLaws
+mod TrueLaws
