@@ -2,7 +2,9 @@
 //!
 //! `evaluate` gives the verdict of a configuration, or the acl and key whose answer is needed first.
 //! `pool_of` gives the delay pool of a check, and `decision` what one rule decides that asks no helper. All equal the
-//! definitions of the rules: terms from left to right, up to what decides.
+//! definitions of the rules: terms from left to right, up to what decides. `value_if` gives the value of a leaf acl by
+//! its fact, `what_value` that of an external acl by an answer, and `turned` that of a term with `!`, by the value
+//! without it.
 #![tactic(auto)]
 
 mod deciding;

@@ -48,7 +48,7 @@ impl<'a> MemChildOut<'a> {
     }
 }
 
-// What a wire has behind so many lines.
+// What a wire has for who waits for one line more than so many: that line, none yet, or its end.
 #[derive(Clone, Copy)]
 enum Behind {
     Line,
@@ -56,7 +56,7 @@ enum Behind {
     End,
 }
 
-// What a wire has behind this many lines.
+// Which of these a wire has now, behind so many lines.
 fn comes_behind(wire: &Wire, said: usize) -> Behind {
     // First whether it was closed: what was written before that is seen then.
     let closed = wire.is_closed();

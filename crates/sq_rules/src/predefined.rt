@@ -124,7 +124,7 @@ fn to_linklocal_part(alloc: Global) -> Result<AclPart, WantOfMemory>
     )
 }
 
-// Puts them at the end. What goes by reference is let go at no way out.
+// Puts the acls that stand before the first line at the end. What goes by reference is let go at no way out.
 fn put_all(alloc: Global, acls: &mut AclParts) -> Result<(), WantOfMemory>
     ensures { OnOk result (acls.new ≡ acls.old ++ predefined) }
 {

@@ -27,7 +27,7 @@ use std::thread::Threads;
 /// the seat and the dial, of which there is one at most. Of the heads go on the fields that the configuration of
 /// the record allows, by what its check saw. The seat and the dial are given back. It may wait as
 /// long as a source gives bytes.
-pub fn carry<R: Threads + Wait + Sync, C: Ends, F: Front, D: Dialer>(
+pub(crate) fn carry<R: Threads + Wait + Sync, C: Ends, F: Front, D: Dialer>(
     rt: &R,
     alloc: Global,
     client: &mut Duplex<C>,

@@ -1,11 +1,13 @@
 //! One turn of a client's connection, a request and its answer: what it is, the front that it asks, and its parts.
 //!
 //! `Front` is the engine, the rewriter and the pools as one connection sees them. `next_request` reads the head of a
-//! request, `verdict` asks the front about it, and `go_on` takes an allowed one to its origin and the reply back: all but
-//! CONNECT goes on as the rewriter left it, and of the heads that are passed on, those fields go on that the configuration
-//! of its record allows. `say` and `deny` are what the proxy says itself. Where links, front and dialer tell what they
-//! hold, what was written is what the definition of a turn gives of the client's bytes, the front's answers and the
-//! origin's bytes, or a front of it behind a fault. A fault is answered only where the count of its object rose.
+//! request, and `heard_of` says what becomes of it; `verdict` asks the front about it, and `go_on` takes an allowed one
+//! to its origin and the reply back: all but CONNECT goes on as the rewriter left it, and of the heads that are passed
+//! on, those fields go on that the configuration of its record allows. `say` and `deny` are what the proxy says itself;
+//! `is_head` says whether that has no body, and `denied_closes` whether the connection closes behind a denial. Where
+//! links, front and dialer tell what they hold, what was written is what the definition of a turn gives of the client's
+//! bytes, the front's answers and the origin's bytes, or a front of it behind a fault. A fault is answered only where
+//! the count of its object rose.
 #![tactic(auto)]
 
 mod beginning;
@@ -19,7 +21,6 @@ mod rewriting;
 mod verdicts;
 
 pub use beginning::{Begun, Heard, heard_of, next_request};
-pub use carrying::carry;
 pub use ends::{Carried, End};
 pub use front::{CloseFault, Counts, Decided, Front, Opened, Rewritten, SitFault};
 pub use judged::JudgedRequest;
