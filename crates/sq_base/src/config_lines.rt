@@ -4,10 +4,19 @@ use crate::bytes::Texts;
 use crate::listed::Listed;
 
 /// The words of a line, with the number of the line's first part.
-#[derive(Drop, PartialEq, Eq)]
+#[derive(PartialEq, Eq)]
 pub struct Line {
     pub number: u32,
     pub words: Texts,
+}
+
+impl Drop for Line {
+    fn drop(self) {
+        let Line {
+            number: _,
+            words: _,
+        } = self;
+    }
 }
 
 /// A list of lines.

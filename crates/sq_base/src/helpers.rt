@@ -9,10 +9,16 @@ use std::alloc::Global;
 use std::marker::Model;
 
 /// A pair `key=value` of a helper's reply.
-#[derive(Drop, PartialEq, Eq)]
+#[derive(PartialEq, Eq)]
 pub struct Pair {
     pub key: Text,
     pub value: Text,
+}
+
+impl Drop for Pair {
+    fn drop(self) {
+        let Pair { key: _, value: _ } = self;
+    }
 }
 
 /// A list of pairs.
@@ -35,10 +41,16 @@ pub enum Word {
 }
 
 /// A helper's reply, without its channel.
-#[derive(Drop, PartialEq, Eq)]
+#[derive(PartialEq, Eq)]
 pub struct Reply {
     pub word: Word,
     pub pairs: Pairs,
+}
+
+impl Drop for Reply {
+    fn drop(self) {
+        let Reply { word: _, pairs: _ } = self;
+    }
 }
 
 impl Copying for Reply {
@@ -69,11 +81,21 @@ pub enum Cause {
 }
 
 /// What a check took for a class and key: OK or ERR with the reply's pairs, or a fault.
-#[derive(Drop, PartialEq, Eq)]
+#[derive(PartialEq, Eq)]
 pub enum What {
     Yes(Pairs),
     No(Pairs),
     Fault(Cause),
+}
+
+impl Drop for What {
+    fn drop(self) {
+        match self {
+            What::Yes(_) => {}
+            What::No(_) => {}
+            What::Fault(_) => {}
+        }
+    }
 }
 
 impl Copying for What {
@@ -94,7 +116,7 @@ impl Copying for What {
 
 /// An answer that a check took: its class by place, its key, the question that it answers (none for
 /// a full queue or a long key), the moment of the reply, and the moment at which it was taken.
-#[derive(Drop, PartialEq, Eq)]
+#[derive(PartialEq, Eq)]
 pub struct Answer {
     pub class: u32,
     pub key: Text,
@@ -102,6 +124,19 @@ pub struct Answer {
     pub question: Option<QuestionNo>,
     pub date: Moment,
     pub taken: Moment,
+}
+
+impl Drop for Answer {
+    fn drop(self) {
+        let Answer {
+            class: _,
+            key: _,
+            what: _,
+            question: _,
+            date: _,
+            taken: _,
+        } = self;
+    }
 }
 
 impl Copying for Answer {
@@ -120,9 +155,14 @@ impl Copying for Answer {
 }
 
 /// Answers, of which no two have one class and key. A contract sees their list.
-#[derive(Drop)]
 pub struct Answers {
     items: Listed<Answer>,
+}
+
+impl Drop for Answers {
+    fn drop(self) {
+        let Answers { items: _ } = self;
+    }
 }
 
 impl Model for Answers {

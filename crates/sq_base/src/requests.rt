@@ -7,10 +7,16 @@ use std::alloc::Global;
 use std::marker::Model;
 
 /// A header field.
-#[derive(Drop, PartialEq, Eq)]
+#[derive(PartialEq, Eq)]
 pub struct Field {
     pub name: Text,
     pub value: Text,
+}
+
+impl Drop for Field {
+    fn drop(self) {
+        let Field { name: _, value: _ } = self;
+    }
 }
 
 /// A list of header fields.
@@ -26,7 +32,6 @@ impl Copying for Field {
 
 /// A request. Scheme and host are in lower case; scheme and path are empty for CONNECT; the path has
 /// the query. The parts of the target are always those of its method and target.
-#[derive(Drop)]
 pub struct Request {
     pub method: Text,
     pub target: Text,
@@ -37,6 +42,22 @@ pub struct Request {
     pub path: Text,
     pub minor: u8,
     pub fields: Fields,
+}
+
+impl Drop for Request {
+    fn drop(self) {
+        let Request {
+            method: _,
+            target: _,
+            scheme: _,
+            host: _,
+            literal: _,
+            port: _,
+            path: _,
+            minor: _,
+            fields: _,
+        } = self;
+    }
 }
 
 impl Model for Request {

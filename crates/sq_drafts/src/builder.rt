@@ -17,6 +17,7 @@ use sq_rules::{
 };
 use std::alloc::Global;
 use std::marker::Model;
+use std::mem;
 
 mod acls;
 mod classes;
@@ -120,10 +121,13 @@ fn with_first(
     ensures { IfOk result (λ t. t ≡ with_first body name acls) }
 {
     let mut acls = acls;
-    match body {
-        Body::Leaf(Leaf::Dst(values)) => acls.push_lookup(alloc, name, values)?,
-        body => acls.push(alloc, name, body)?,
+    let mut body = body;
+    if let Body::Leaf(Leaf::Dst(values)) = &mut body {
+        let values = mem::replace(values, Listed::new(alloc));
+        acls.push_lookup(alloc, name, values)?;
+        return Ok(acls);
     }
+    acls.push(alloc, name, body)?;
     Ok(acls)
 }
 

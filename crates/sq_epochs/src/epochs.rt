@@ -29,11 +29,20 @@ use std::sync::Arc;
 
 /// The live epochs by number, the current one the last that began, with the parts of their classes; the homes of
 /// processes and the due stops.
-#[derive(Drop)]
 pub struct Epochs {
     pub(crate) current: EpochNo,
     pub(crate) epochs: Vec<Epoch>,
     pub(crate) homes: Homes,
+}
+
+impl Drop for Epochs {
+    fn drop(self) {
+        let Epochs {
+            current: _,
+            epochs: _,
+            homes: _,
+        } = self;
+    }
 }
 
 impl Model for Epochs {

@@ -10,9 +10,14 @@ use std::collections::btree_set::Iter;
 use std::marker::Model;
 
 /// Checks, each once. A contract sees their numbers in ascending order.
-#[derive(Drop)]
 pub struct Checks {
     numbers: BTreeSet<CheckNo>,
+}
+
+impl Drop for Checks {
+    fn drop(self) {
+        let Checks { numbers: _ } = self;
+    }
 }
 
 impl Model for Checks {

@@ -15,11 +15,20 @@ use std::marker::Model;
 
 /// The questions of a class that have no answer yet, with their keys, and the checks that wait for them.
 /// A contract sees questions and keys in the order of the questions, and for each check its question.
-#[derive(Drop)]
 pub struct Lookups {
     keys: Keys,
     rows: Rows,
     waiters: Waiters,
+}
+
+impl Drop for Lookups {
+    fn drop(self) {
+        let Lookups {
+            keys: _,
+            rows: _,
+            waiters: _,
+        } = self;
+    }
 }
 
 impl Model for Lookups {

@@ -10,9 +10,14 @@ use std::collections::BTreeMap;
 use std::marker::Model;
 
 /// A seat in a delay pool. It is not copied: who has it gives it up once.
-#[derive(Drop)]
 pub struct Seat {
     number: SeatNo,
+}
+
+impl Drop for Seat {
+    fn drop(self) {
+        let Seat { number: _ } = self;
+    }
 }
 
 impl Model for Seat {

@@ -8,17 +8,17 @@ use sq_base::{Listed, WantOfMemory};
 use std::alloc::Global;
 use std::mem;
 
-// Puts the values of another list at the end.
+// Puts the values of another list at the end, and leaves that without them.
 fn append<T: Drop>(
     alloc: Global,
     values: &mut Listed<T>,
-    more: Listed<T>,
+    more: &mut Listed<T>,
 ) -> Result<(), WantOfMemory>
-    ensures ok { OnOk result (values.new ≡ values.old ++ more) }
+    ensures ok { OnOk result (values.new ≡ values.old ++ more.old) }
     ensures err { OnErr result (values.new ≡ values.old) }
 {
     let mut all = mem::replace(values, Listed::new(alloc)).into_vec();
-    let mut more = more.into_vec();
+    let mut more = mem::replace(more, Listed::new(alloc)).into_vec();
     let appended = all.append(&mut more);
     *values = Listed::from_vec(all);
     appended?;
@@ -43,9 +43,9 @@ fn push_in_last(alloc: Global, lines: &mut Lines, term: Term) -> Result<(), Want
 }
 
 impl Leaf {
-    /// Puts the values of another leaf of its type at the end.
-    pub fn join(&mut self, alloc: Global, more: Leaf) -> Result<(), WantOfMemory>
-        ensures ok { OnOk result (self.new ≡ joined_leaves self.old more) }
+    /// Puts the values of another leaf of its type at the end, and leaves that without them.
+    pub fn join(&mut self, alloc: Global, more: &mut Leaf) -> Result<(), WantOfMemory>
+        ensures ok { OnOk result (self.new ≡ joined_leaves self.old more.old) }
         ensures err { OnErr result (self.new ≡ self.old) }
     {
         match (self, more) {
@@ -64,11 +64,11 @@ impl Leaf {
 }
 
 impl Acl {
-    /// Puts further values into a leaf.
-    pub fn join(&mut self, alloc: Global, more: Leaf) -> Result<(), WantOfMemory>
+    /// Puts further values into a leaf, and leaves that of which they are without them.
+    pub fn join(&mut self, alloc: Global, more: &mut Leaf) -> Result<(), WantOfMemory>
         ensures named { self.new.name ≡ self.old.name }
         ensures ok { OnOk result
-            (self.new ≡ record self.old { body = with_leaf more self.old.body }) }
+            (self.new ≡ record self.old { body = with_leaf more.old self.old.body }) }
         ensures err { OnErr result (self.new ≡ self.old) }
     {
         match &mut self.body {

@@ -358,7 +358,8 @@ impl AclTable {
         ensures ok { OnOk result (self.new ≡ change_body place (with_leaf more) self.old) }
         ensures err { OnErr result (self.new ≡ self.old) }
     {
-        self.acls[place as usize].join(alloc, more)
+        let mut more = more;
+        self.acls[place as usize].join(alloc, &mut more)
     }
 
     /// Opens a further line of members of the acl at a place; only that of `all-of` counts.

@@ -17,7 +17,6 @@ use std::alloc::Global;
 use std::marker::Model;
 
 /// What an acl is.
-#[derive(Drop)]
 pub enum Body {
     /// A list of values, which a request and its client meet or not.
     Leaf(Leaf),
@@ -29,11 +28,30 @@ pub enum Body {
     AllOf(Lines),
 }
 
+impl Drop for Body {
+    fn drop(self) {
+        match self {
+            Body::Leaf(_) => {}
+            Body::External {
+                class: _,
+                arguments: _,
+            } => {}
+            Body::AnyOf(_) => {}
+            Body::AllOf(_) => {}
+        }
+    }
+}
+
 /// An acl: a name, and what it holds of.
-#[derive(Drop)]
 pub struct Acl {
     pub name: Text,
     pub body: Body,
+}
+
+impl Drop for Acl {
+    fn drop(self) {
+        let Acl { name: _, body: _ } = self;
+    }
 }
 
 /// A list of acls.
@@ -53,10 +71,15 @@ pub type Terms = Listed<Term>;
 pub type Lines = Listed<Terms>;
 
 /// A rule: its action, and the terms that all have to hold.
-#[derive(Drop)]
 pub struct Rule {
     pub allow: bool,
     pub terms: Terms,
+}
+
+impl Drop for Rule {
+    fn drop(self) {
+        let Rule { allow: _, terms: _ } = self;
+    }
 }
 
 /// A list of rules.

@@ -7,9 +7,14 @@ use std::sync::ledger::Ledger;
 
 /// One truth value for each acl, by its place. That of an acl that is no leaf says nothing. A contract
 /// sees their list.
-#[derive(Drop)]
 pub struct Facts {
     values: Vec<bool>,
+}
+
+impl Drop for Facts {
+    fn drop(self) {
+        let Facts { values: _ } = self;
+    }
 }
 
 impl Model for Facts {

@@ -7,13 +7,22 @@ use sq_base::{Listed, Text, WantOfMemory};
 use std::alloc::Global;
 
 /// A rule for the fields of a name.
-#[derive(Drop)]
 pub struct HeaderRule {
     /// Whether it is for fields of replies, or for those of requests.
     pub reply: bool,
     /// The name of the fields in lower case; `all` is for each field that no rule of its own name is for.
     pub name: Text,
     pub rule: Rule,
+}
+
+impl Drop for HeaderRule {
+    fn drop(self) {
+        let HeaderRule {
+            reply: _,
+            name: _,
+            rule: _,
+        } = self;
+    }
 }
 
 /// A list of such rules.

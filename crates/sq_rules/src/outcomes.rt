@@ -2,7 +2,7 @@
 use sq_base::{Cause, Text};
 
 /// Why a check was decided as it was.
-#[derive(Drop, Debug, PartialEq, Eq)]
+#[derive(Debug, PartialEq, Eq)]
 pub enum Why {
     /// The rule of this number, from 1, matched.
     Rule(u32),
@@ -14,9 +14,30 @@ pub enum Why {
     Fault { rule: u32, acl: Text, cause: Cause },
 }
 
+impl Drop for Why {
+    fn drop(self) {
+        match self {
+            Why::Rule(_) => {}
+            Why::Default => {}
+            Why::Empty => {}
+            Why::Fault {
+                rule: _,
+                acl: _,
+                cause: _,
+            } => {}
+        }
+    }
+}
+
 /// The outcome of a check: whether the request is allowed, and why.
-#[derive(Drop, Debug, PartialEq, Eq)]
+#[derive(Debug, PartialEq, Eq)]
 pub struct Outcome {
     pub allow: bool,
     pub why: Why,
+}
+
+impl Drop for Outcome {
+    fn drop(self) {
+        let Outcome { allow: _, why: _ } = self;
+    }
 }

@@ -27,11 +27,20 @@ pub type Limits = Listed<Option<Limit>>;
 
 /// A delay pool: its class, which is 1, 2, 3 or 5, a limit for each kind of that class's buckets, and the rules that
 /// say whom it delays.
-#[derive(Drop)]
 pub struct Pool {
     pub class: u8,
     pub pairs: Limits,
     pub lists: Rules,
+}
+
+impl Drop for Pool {
+    fn drop(self) {
+        let Pool {
+            class: _,
+            pairs: _,
+            lists: _,
+        } = self;
+    }
 }
 
 /// A list of pools.
