@@ -255,16 +255,11 @@ impl<'a> Dialer for MemDialer<'a> {
             return;
         }
         let MemIn { source, host, port } = from;
-        let MemOut {
-            sink,
-            closed: _,
-            wire: _,
-        } = to;
         let dial = MemDial {
             host,
             port,
             bytes: Text::from_vec(source.into_text()),
-            written: Text::from_vec(sink.into_bytes()),
+            written: Text::from_vec(to.into_sink().into_bytes()),
         };
         self.back.push(dial).unwrap();
     }

@@ -14,12 +14,26 @@ use sq_base::{Text, WantOfMemory};
 use sq_outside::{Failed, Out, Sink};
 use std::alloc::Global;
 
-/// A sink in memory that can be closed. A wire, where it has one, gets the same bytes.
-#[derive(Drop)]
+/// A sink in memory that can be closed. A wire, where it has one, gets the same bytes, and its end, too, where the sink is let go
+/// without being closed.
 pub struct MemOut<'a> {
     pub(crate) sink: MemSink,
     pub(crate) closed: bool,
     pub(crate) wire: Option<&'a Wire>,
+}
+
+// Whoever reads what a program wrote is told of its end as of a real one's, however that half was let go.
+impl<'a> Drop for MemOut<'a> {
+    fn drop(self) {
+        let MemOut {
+            sink: _,
+            closed: _,
+            wire,
+        } = self;
+        if let Some(wire) = wire {
+            wire.close();
+        }
+    }
 }
 
 impl<'a> MemOut<'a> {
@@ -35,6 +49,18 @@ impl<'a> MemOut<'a> {
             closed: false,
             wire,
         }
+    }
+
+    // The sink alone. The wire stays as it is.
+    pub(crate) fn into_sink(self) -> MemSink
+        ensures { result ≡ out_sink self.entry }
+    {
+        let MemOut {
+            sink,
+            closed: _,
+            wire: _,
+        } = self;
+        sink
     }
 }
 
