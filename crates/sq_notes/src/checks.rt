@@ -47,9 +47,9 @@ fn asked(alloc: Global, conn: ConnNo, request: &Request) -> Result<Event, WantOf
 
 // Makes a place for the entry of a request, and its event.
 fn ready<J: Journal>(
+    alloc: Global,
     notes: &mut Notes<J>,
     load: u128,
-    alloc: Global,
     conn: ConnNo,
     request: &Request,
 ) -> Result<Event, DeskFault>
@@ -86,7 +86,7 @@ pub fn ask<J: Journal>(
 {
     let moment = later(now, engine.latest());
     formed(&request);
-    let event = match ready(notes, engine.load(), alloc, conn, &request) {
+    let event = match ready(alloc, notes, engine.load(), conn, &request) {
         Ok(event) => event,
         Err(fault) => return Err(fault),
     };

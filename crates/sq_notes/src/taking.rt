@@ -24,7 +24,7 @@ use sq_rules::Outcome;
 use std::alloc::Global;
 
 // A copy of the outcome of a check that would be taken.
-fn outcome_copy(engine: &Engine, alloc: Global, check: CheckNo) -> Result<Outcome, Refusal>
+fn outcome_copy(alloc: Global, engine: &Engine, check: CheckNo) -> Result<Outcome, Refusal>
     ensures { IsTold (λ o. told.Judged (epoch_of (state_of engine.now) check) o)
         (take_answer (state_of engine.now) check) result }
 {
@@ -57,7 +57,7 @@ pub fn take<J: Journal>(
         Ok(()) => {}
         Err(fault) => return Err(fault),
     }
-    let outcome = match outcome_copy(engine, alloc, check) {
+    let outcome = match outcome_copy(alloc, engine, check) {
         Ok(outcome) => outcome,
         Err(refusal) => return Err(notes.refuse(refusal)),
     };

@@ -150,8 +150,7 @@ fn first_line<S: Source>(
 {
     match journal_line(version, held, journal, place, line) {
         Ok(LineFound::Whole) => Ok(()),
-        Ok(LineFound::End) => Err(Finding::Script(line_number(version, 0))),
-        Ok(LineFound::Faulty) => Err(Finding::Script(line_number(version, 0))),
+        Ok(LineFound::End | LineFound::Faulty) => Err(Finding::Script(line_number(version, 0))),
         Err(Unread::Failed) => Err(Finding::ReadFault),
         Err(Unread::WantOfMemory) => Err(Finding::WantOfMemory),
     }
