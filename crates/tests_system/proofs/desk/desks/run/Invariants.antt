@@ -1,4 +1,4 @@
-use Rattle.tests_desk.proofs.desks.run.Given as goal
+use Rattle.tests_system.proofs.desk.desks.run.Given as goal
 use Rattle.std.specs.Prelude.{pos}
 
 -- the desk begins with the configuration that was just made

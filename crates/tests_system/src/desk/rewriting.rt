@@ -1,8 +1,8 @@
 //! Each call of a rewriter, made behind its lock.
 ghost use Rattle.std.specs.Prelude.{◌<◌};
 
-use crate::desks::append;
-use crate::locked::{Table, check};
+use crate::desk::desks::append;
+use crate::desk::locked::{Table, check};
 use sq_base::{ConnNo, Fields, ProcNo, QuestionNo, Request, number_of};
 use sq_checks::Record;
 use sq_conn_policy::Hub;

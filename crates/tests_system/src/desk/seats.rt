@@ -2,9 +2,9 @@
 ghost use Rattle.std.specs.Prelude.{◌≡◌};
 ghost use Rattle.sq_pools.specs.Basins.{has_pool, has_tag_pool};
 
-use crate::desks::append;
-use crate::locked::{Table, check};
-use crate::rewriting::number;
+use crate::desk::desks::append;
+use crate::desk::locked::{Table, check};
+use crate::desk::rewriting::number;
 use sq_base::{Addr, EpochNo, Moment, Text, number_of};
 use sq_conn_policy::Hub;
 use sq_pools::{Bank, Seat, TagSeat, renew, renew_tags};

@@ -1,7 +1,7 @@
 //! Who waits behind the desk's lock, and for how long: a connection for an answer, and the pump until it is told of something.
-use crate::desks::{append, helper_mark, hub_mark};
-use crate::locked::{Table, check};
-use crate::rewriting::number;
+use crate::desk::desks::{append, helper_mark, hub_mark};
+use crate::desk::locked::{Table, check};
+use crate::desk::rewriting::number;
 use sq_base::QuestionNo;
 use sq_calls::{DeskCalls, HelperCalls};
 use sq_conn_policy::Hub;

@@ -1,4 +1,4 @@
-use Rattle.tests_desk.proofs.locked.told_locked.Given as goal
+use Rattle.tests_system.proofs.desk.locked.told_locked.Given as goal
 use Rattle.std.specs.Prelude.{pos}
 
 -- each book is named by its blank, and the desk begins with the configuration that was just made

@@ -1,6 +1,6 @@
 //! Each note fails in turn.
-use crate::desks::{Ran, append, is_front, is_noted, run};
-use crate::jobs::LINES;
+use crate::desk::desks::{Ran, append, is_front, is_noted, run};
+use crate::desk::jobs::LINES;
 use std::alloc::Global;
 use std::process::Abort;
 

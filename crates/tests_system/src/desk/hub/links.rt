@@ -1,6 +1,8 @@
 //! How far sessions go of which each call of each half of both links, and each dial, fails in turn.
-use crate::hub::running::Place::{self, ClientRead, ClientWrite, Dial, OriginRead, OriginWrite};
-use crate::hub::running::{Fault, Links, run_over};
+use crate::desk::hub::running::Place::{
+    self, ClientRead, ClientWrite, Dial, OriginRead, OriginWrite,
+};
+use crate::desk::hub::running::{Fault, Links, run_over};
 use End::{ClientFault, Finished, OriginFault, Starved};
 use sq_base::Text;
 use sq_turns::End;

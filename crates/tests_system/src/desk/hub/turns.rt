@@ -1,5 +1,5 @@
 //! What a client gets where a call of its session's hub fails.
-use crate::hub::running::run;
+use crate::desk::hub::running::run;
 use sq_base::{Text, number_of};
 use sq_session::SessionEnd;
 use sq_turns::End;

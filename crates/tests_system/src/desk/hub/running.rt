@@ -1,5 +1,5 @@
 //! A session over a machine in memory, of whose hub or links a call may fail.
-use crate::hub::failing::Failing;
+use crate::desk::hub::failing::Failing;
 use Place::{ClientRead, ClientWrite, Dial, OriginRead, OriginWrite};
 use sq_base::{Addr, ConnNo, Copying, Moment, Text};
 use sq_conf::read_config;

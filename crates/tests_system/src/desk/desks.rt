@@ -2,8 +2,8 @@
 ghost use Rattle.std.specs.Prelude.{◌≡◌, pos, []};
 ghost use Rattle.sq_journal.specs.Memory.{mem_history};
 
-use crate::calls::{Gave, call, call_helper, call_hub, is_same, setup_of};
-use crate::jobs::{BEGIN, CONF, LINES};
+use crate::desk::calls::{Gave, call, call_helper, call_hub, is_same, setup_of};
+use crate::desk::jobs::{BEGIN, CONF, LINES};
 use sq_base::Moment;
 use sq_cache::HashSeed;
 use sq_calls::{DeskCalls, DeskFault, HelperCalls};
