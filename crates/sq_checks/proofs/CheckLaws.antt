@@ -18,7 +18,7 @@ use Rattle.sq_model.specs.declared.stepping.Stepped.{Stepped}
 use Rattle.sq_model.specs.declared.stepping.Stepped.TheVariants as told
 use Rattle.sq_rules.specs.declared.values.Value.{Value}
 use Rattle.sq_rules.specs.declared.values.Value.TheVariants as value
-use Rattle.sq_frames.specs.Positions.{look_limit}
+use Rattle.sq_checks.specs.Positions.{look_limit}
 use Rattle.sq_checks.specs.Givens.{leaves_over, looks_over}
 use Rattle.sq_checks.specs.OpenChecks.{CheckParts, IsFit, answers_in, begun_parts, comes_to, ended_by, finished, is_need, noted, row, says_of, says_waits, settled, step_more, waited}
 use Rattle.sq_checks.specs.Stages.{HasAsked, IsLooked, IsOf, IsStage, came_in, decided_in, ended_stage, given, is_done_in, is_idle, is_noted, is_settled, need_in, noted_stage, question_in}

@@ -28,14 +28,14 @@ use Rattle.sq_rules.specs.declared.values.TermValue.TheVariants.{Hit, Miss, Faul
 use Rattle.sq_rules.specs.declared.values.Value.{Value}
 use Rattle.sq_rules.specs.declared.values.Value.TheVariants as value
 use Rattle.sq_machine.specs.StepRule.{class_of_body}
-use Rattle.sq_frames.proofs.FrameLaws.{few_over}
-use Rattle.sq_frames.specs.Courses.{Extends, is_need, leaves, still_needed}
-use Rattle.sq_frames.specs.Givens as by
-use Rattle.sq_frames.specs.Positions.{course_at, look_limit}
-use Rattle.sq_frames.specs.Slots.{external_of, is_external, is_external_at, slots_of}
-use Rattle.sq_frames.specs.Standing.{IsAt, IsOver, IsWhole, Standing, given_to, leaves_of, looks_in, taken_of, value_of}
-use Rattle.sq_frames.specs.declared.answers.Given.{Given}
-use Rattle.sq_frames.specs.declared.answers.Given.TheVariants as given
+use Rattle.sq_checks.proofs.FrameLaws.{few_over}
+use Rattle.sq_checks.specs.Courses.{Extends, is_need, leaves, still_needed}
+use Rattle.sq_checks.specs.GivenValues as by
+use Rattle.sq_checks.specs.Positions.{course_at, look_limit}
+use Rattle.sq_checks.specs.Slots.{external_of, is_external, is_external_at, slots_of}
+use Rattle.sq_checks.specs.Standing.{IsAt, IsOver, IsWhole, Standing, given_to, leaves_of, looks_in, taken_of, value_of}
+use Rattle.sq_checks.specs.declared.answers.Given.{Given}
+use Rattle.sq_checks.specs.declared.answers.Given.TheVariants as given
 use Rattle.sq_checks.specs.Givens.{AreCounted, AreFrames, AreGiven, given_by, leaves_over, looks_over}
 use Rattle.sq_checks.specs.Stages.{IsOf}
 use Rattle.sq_checks.proofs.MapLaws.{self_number}

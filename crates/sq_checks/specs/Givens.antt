@@ -9,13 +9,13 @@ use Rattle.sq_rules.specs.Walks.{walk_over}
 use Rattle.sq_rules.specs.declared.sights.Sight.{Sight}
 use Rattle.sq_rules.specs.declared.values.TermValue.{TermValue}
 use Rattle.sq_rules.specs.declared.values.TermValue.TheVariants.{Need}
-use Rattle.sq_frames.specs.Courses.{leaves}
-use Rattle.sq_frames.specs.Givens.{given_value}
-use Rattle.sq_frames.specs.Positions.{look_limit}
-use Rattle.sq_frames.specs.Slots.{is_external_at}
-use Rattle.sq_frames.specs.Standing.{IsOver, Standing, given_to}
-use Rattle.sq_frames.specs.declared.answers.Given.{Given}
-use Rattle.sq_frames.specs.declared.answers.Given.TheVariants as given
+use Rattle.sq_checks.specs.Courses.{leaves}
+use Rattle.sq_checks.specs.GivenValues.{given_value}
+use Rattle.sq_checks.specs.Positions.{look_limit}
+use Rattle.sq_checks.specs.Slots.{is_external_at}
+use Rattle.sq_checks.specs.Standing.{IsOver, Standing, given_to}
+use Rattle.sq_checks.specs.declared.answers.Given.{Given}
+use Rattle.sq_checks.specs.declared.answers.Given.TheVariants as given
 use Rattle.sq_checks.specs.declared.going.Found.{Found}
 use Rattle.sq_checks.specs.declared.going.Found.TheVariants as found
 

@@ -21,8 +21,8 @@ use Rattle.sq_rules.specs.declared.values.Value.TheVariants as value
 use Rattle.sq_model.specs.CheckRows.{Ends, Held, held_on}
 use Rattle.sq_model.specs.StepRows.{question_told, told_of}
 use Rattle.sq_model.specs.declared.stepping.StepEffect.{StepEffect}
-use Rattle.sq_frames.specs.Positions.{look_limit}
-use Rattle.sq_frames.specs.Standing.{Standing}
+use Rattle.sq_checks.specs.Positions.{look_limit}
+use Rattle.sq_checks.specs.Standing.{Standing}
 use Rattle.sq_checks.specs.Givens.{AreFrames, looks_over}
 use Rattle.sq_checks.specs.Stages.{HasAsked, IsLooked, IsStage, came_in, ended_stage, given, is_done_in, is_idle, is_noted, noted_stage, question_in}
 use Rattle.sq_checks.specs.Tables.{value_at}

@@ -8,20 +8,21 @@ ghost use Rattle.sq_machine.specs.StepRule.{class_of_acl};
 ghost use Rattle.sq_rules.specs.Keys.{key_text};
 ghost use Rattle.sq_rules.specs.Verdicts.{verdict_over};
 ghost use Rattle.sq_rules.specs.declared.values.Value.TheVariants as value;
-ghost use Rattle.sq_frames.specs.Positions.{look_limit};
+ghost use Rattle.sq_checks.specs.Positions.{look_limit};
 ghost use Rattle.sq_checks.specs.Givens.{leaves_over, looks_over};
 ghost use Rattle.sq_checks.specs.OpenChecks.{HasCome, IsNoted, begun_parts, ended_by, finished, looked, noted, settled, step_more, waited};
 ghost use Rattle.sq_checks.specs.Records.{judged_of};
 ghost use Rattle.sq_checks.specs.Stages.{decided_in, is_idle, is_settled, need_in, question_in};
 
+use crate::frames::Frames;
 use crate::going::{come_to, give_asked, given_by};
 use crate::records::Record;
+use crate::slots::Slots;
 use crate::stages::{CheckStage, Need, came, decided, ended, need_of, noted, question};
 use sq_base::{
     Answers, CheckNo, ConnNo, EpochNo, Moment, QuestionNo, Steps, Text, WantOfMemory, What,
 };
 use sq_eval::pool_of;
-use sq_frames::{Frames, Slots};
 use sq_machine::LAST_NUMBER;
 use sq_model::StepEffect;
 use sq_rules::{Config, Facts, Outcome, Sight, Value};
@@ -50,7 +51,7 @@ pub struct OpenCheck {
 
 impl Model for OpenCheck {
     ghost use Rattle.std.specs.Arc.{arc_value};
-    ghost use Rattle.sq_frames.specs.Standing.{looks_in};
+    ghost use Rattle.sq_checks.specs.Standing.{looks_in};
     ghost use Rattle.sq_checks.specs.OpenChecks.{CheckParts, IsCheck};
 
     ghost Value = { CheckParts };

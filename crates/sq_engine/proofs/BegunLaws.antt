@@ -9,7 +9,7 @@ use Rattle.sq_base.specs.Requests.{HttpRequest}
 use Rattle.sq_rules.specs.Configurations.{Configuration}
 use Rattle.sq_machine.specs.Losses.{Loss}
 use Rattle.sq_rules.specs.declared.sights.Sight.{Sight}
-use Rattle.sq_frames.specs.Positions.{look_limit}
+use Rattle.sq_checks.specs.Positions.{look_limit}
 use Rattle.sq_checks.specs.OpenChecks.{CheckParts, all_before, all_ended, begun_parts, change_at, ended_by, looked, rows_of, settled, settled_by, without_entry}
 use Rattle.sq_checks.specs.Stages.{came_in}
 use Rattle.sq_checks.specs.Tables.{value_at}

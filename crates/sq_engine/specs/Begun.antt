@@ -6,7 +6,7 @@ use Rattle.sq_base.specs.Requests.{HttpRequest}
 use Rattle.sq_rules.specs.Configurations.{Configuration}
 use Rattle.sq_rules.specs.Verdicts.{pool_of}
 use Rattle.sq_rules.specs.declared.sights.Sight.{Sight}
-use Rattle.sq_frames.specs.Positions.{look_limit}
+use Rattle.sq_checks.specs.Positions.{look_limit}
 use Rattle.sq_checks.specs.OpenChecks.{CheckParts}
 use Rattle.sq_checks.specs.Tables.{value_at}
 

@@ -3,8 +3,7 @@ ghost use Rattle.std.specs.Prelude.{◌≡◌, IfOk};
 ghost use Rattle.sq_checks.specs.OpenChecks.{begun_parts};
 
 use sq_base::{ConnNo, EpochNo, WantOfMemory};
-use sq_checks::OpenCheck;
-use sq_frames::Slots;
+use sq_checks::{OpenCheck, Slots};
 use sq_rules::Sight;
 use sq_urlmatch::{Setup, read_facts};
 use std::alloc::Global;

@@ -6,10 +6,10 @@ use Rattle.sq_rules.specs.declared.outcomes.Outcome.{Outcome}
 use Rattle.sq_rules.specs.declared.values.TermValue.TheVariants.{Need}
 use Rattle.sq_rules.specs.declared.values.Value.{Value}
 use Rattle.sq_rules.specs.declared.values.Value.TheVariants as value
-use Rattle.sq_frames.specs.Courses.{is_need, still_needed}
-use Rattle.sq_frames.specs.Givens.{given_value, needed_by, ran_value, why_of}
-use Rattle.sq_frames.specs.Standing.{IsOver, looks_in, value_of}
-use Rattle.sq_frames.specs.declared.answers.Ran.TheVariants as ran
+use Rattle.sq_checks.specs.Courses.{is_need, still_needed}
+use Rattle.sq_checks.specs.GivenValues.{given_value, needed_by, ran_value, why_of}
+use Rattle.sq_checks.specs.Standing.{IsOver, looks_in, value_of}
+use Rattle.sq_checks.specs.declared.answers.Ran.TheVariants as ran
 use Rattle.sq_checks.specs.Givens.{AreFrames, found_value, looks_over}
 use Rattle.sq_checks.proofs.CheckLaws.{always}
 use Rattle.sq_checks.proofs.GivenLaws.{decided_over, frames_given, frames_looked, frames_same, going_counted, going_given, going_none, going_run, needed_over}

@@ -1,5 +1,5 @@
-use Rattle.sq_frames.specs.Givens.{left_in}
-use Rattle.sq_frames.specs.Standing.{looks_in}
+use Rattle.sq_checks.specs.GivenValues.{left_in}
+use Rattle.sq_checks.specs.Standing.{looks_in}
 use Rattle.sq_checks.specs.Givens.{AreFrames}
 use Rattle.sq_checks.proofs.GivenLaws.{AreGoing}
 use Rattle.sq_checks.proofs.going.come_to.Given as goal

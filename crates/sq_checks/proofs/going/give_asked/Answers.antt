@@ -1,7 +1,7 @@
 use Rattle.std.proofs.Common.{◌≡◌, ◌∙◌, ℕ, Some, ap, sym}
 use Rattle.sq_rules.specs.Values.{taken_at}
-use Rattle.sq_frames.specs.Givens.{given_value}
-use Rattle.sq_frames.specs.Standing.{IsOver}
+use Rattle.sq_checks.specs.GivenValues.{given_value}
+use Rattle.sq_checks.specs.Standing.{IsOver}
 use Rattle.sq_checks.proofs.CheckLaws.{found_has}
 use Rattle.sq_checks.proofs.GivenLaws.{frames_given}
 use Rattle.sq_checks.proofs.going.give_asked.Goals as goal

@@ -2,7 +2,7 @@ use Rattle.std.proofs.Common.{◌≡◌, ◌∙◌, ◌≤◌, ℕ, ap, sym, sub
 use Rattle.std.specs.Arc.{arc_value}
 use Rattle.sq_rules.specs.Configurations.{Configuration}
 use Rattle.sq_rules.specs.Verdicts.{verdict_over}
-use Rattle.sq_frames.specs.Standing.{looks_in}
+use Rattle.sq_checks.specs.Standing.{looks_in}
 use Rattle.sq_checks.specs.Givens.{AreFrames, leaves_over, looks_over}
 use Rattle.sq_checks.specs.OpenChecks.{CheckParts, HasCome, comes_to}
 use Rattle.sq_checks.specs.Stages.{is_settled}

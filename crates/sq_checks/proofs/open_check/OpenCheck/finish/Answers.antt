@@ -2,7 +2,7 @@ use Rattle.std.proofs.Common.{◌≡◌, ◌∙◌, sym, subst, true}
 use Rattle.std.specs.Arc.{arc_value}
 use Rattle.sq_rules.proofs.SightLaws.{over_unversioned}
 use Rattle.sq_rules.specs.declared.values.Value.TheVariants as value
-use Rattle.sq_frames.specs.Standing.{looks_in}
+use Rattle.sq_checks.specs.Standing.{looks_in}
 use Rattle.sq_checks.specs.OpenChecks.{CheckParts, HasCome}
 use Rattle.sq_checks.specs.Stages.{is_settled}
 use Rattle.sq_checks.proofs.CheckLaws.{comes_settled}

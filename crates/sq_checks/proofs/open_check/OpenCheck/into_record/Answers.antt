@@ -1,7 +1,7 @@
 use Rattle.std.proofs.Common.{◌∙◌, sym, subst}
 use Rattle.std.specs.Arc.{arc_value}
 use Rattle.sq_rules.proofs.SightLaws.{over_unversioned}
-use Rattle.sq_frames.specs.Standing.{looks_in}
+use Rattle.sq_checks.specs.Standing.{looks_in}
 use Rattle.sq_checks.specs.Stages.{IsLooked, IsStage}
 use Rattle.sq_checks.proofs.open_check.OpenCheck.into_record.Goals as goal
 

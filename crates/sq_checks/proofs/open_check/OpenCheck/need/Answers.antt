@@ -1,6 +1,6 @@
 use Rattle.std.proofs.Common.{◌≤◌, subst}
-use Rattle.sq_frames.specs.Positions.{look_limit}
-use Rattle.sq_frames.specs.Standing.{looks_in}
+use Rattle.sq_checks.specs.Positions.{look_limit}
+use Rattle.sq_checks.specs.Standing.{looks_in}
 use Rattle.sq_checks.specs.OpenChecks.{CheckParts}
 use Rattle.sq_checks.specs.Stages.{IsLooked, IsStage}
 use Rattle.sq_checks.proofs.CheckLaws.{need_looked, need_new}

@@ -2,8 +2,8 @@ use Rattle.std.proofs.Common.{◌≡◌, ◌∙◌, ap, sym, refl}
 use Rattle.std.specs.Arc.{arc_value}
 use Rattle.sq_rules.specs.Facts.{facts_of}
 use Rattle.sq_rules.specs.Verdicts.{pool_of}
-use Rattle.sq_frames.proofs.FrameLaws.{none_looked}
-use Rattle.sq_frames.specs.Standing.{looks_in}
+use Rattle.sq_checks.proofs.FrameLaws.{none_looked}
+use Rattle.sq_checks.specs.Standing.{looks_in}
 use Rattle.sq_checks.proofs.CheckLaws.{begun_is}
 use Rattle.sq_checks.proofs.GivenLaws.{frames_first}
 use Rattle.sq_checks.proofs.open_check.OpenCheck.new.Goals as goal

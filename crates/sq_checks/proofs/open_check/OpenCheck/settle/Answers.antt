@@ -3,8 +3,8 @@ use Rattle.std.specs.Arc.{arc_value}
 use Rattle.sq_base.specs.Distinct.{has_answer}
 use Rattle.sq_base.specs.declared.helpers.Answer.{Answer}
 use Rattle.sq_rules.specs.Values.{taken_at}
-use Rattle.sq_frames.specs.Givens.{given_value}
-use Rattle.sq_frames.specs.declared.answers.Given.{Given}
+use Rattle.sq_checks.specs.GivenValues.{given_value}
+use Rattle.sq_checks.specs.declared.answers.Given.{Given}
 use Rattle.sq_checks.specs.Givens.{AreFrames}
 use Rattle.sq_checks.specs.Stages.{IsOf, came_in}
 use Rattle.sq_checks.proofs.CheckLaws.{came_asked, came_new}

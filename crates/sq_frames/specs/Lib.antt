@@ -1,9 +1,0 @@
-pub mod Courses
-pub mod Givens
-pub mod Groups
-pub mod Kinds
-pub mod OpenGroups
-pub mod Positions
-pub mod Slots
-pub mod Standing
-pub mod Weights
