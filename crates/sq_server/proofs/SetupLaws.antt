@@ -3,7 +3,7 @@ use denote.Param.Send.{IsSend, sendable, view_send}
 use denote.Param.SendFields.{FieldsHave, declared_send}
 use Rattle.std.proofs.Crossing.{crosses, Vec-send}
 use Rattle.sq_rules.proofs.ThreadLaws.{config_send, config_sync}
-use Rattle.sq_index.proofs.ThreadLaws.{addr_set_send, domain_set_send, spans_send}
+use Rattle.sq_urlmatch.proofs.SetThreadLaws.{addr_set_send, domain_set_send, spans_send}
 use Rattle.regex_hir.specs.contracts.hir.Hir as hir
 use Rattle.regex_hir.proofs.hir.Hir.TheLaws.TheKnot as knot
 use Rattle.regex_dfa.specs.contracts.dfa.Dfa as dfa

@@ -6,7 +6,7 @@ use Rattle.std.specs.List.{list_any, slice_get}
 use Rattle.std.specs.Str.{str_to_ascii_lowercase}
 use Rattle.percent_encoding.specs.Percent.{percent_decode}
 use Rattle.sq_base.specs.Domains.{in_domain}
-use Rattle.sq_index.specs.Members as index
+use Rattle.sq_urlmatch.specs.Members as index
 use Rattle.sq_rules.specs.Facts.{acl_fact, body_fact, facts_of}
 use Rattle.sq_rules.specs.Patterns.{some_found}
 use Rattle.sq_rules.specs.declared.configs.Acl.{Acl}

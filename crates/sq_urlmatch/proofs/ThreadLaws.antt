@@ -3,7 +3,7 @@ use denote.Param.Send.{IsSend, IsSync, sendable, view_send, view_sync}
 use denote.Param.SendFields.{FieldsHave, declared_send, declared_sync}
 use Rattle.std.proofs.Crossing.{crosses, Vec-send, Vec-sync}
 use Rattle.sq_rules.proofs.ThreadLaws.{config_send, config_sync}
-use Rattle.sq_index.proofs.ThreadLaws.{addr_set_send, addr_set_sync, domain_set_send, domain_set_sync, spans_send, spans_sync}
+use Rattle.sq_urlmatch.proofs.SetThreadLaws.{addr_set_send, addr_set_sync, domain_set_send, domain_set_sync, spans_send, spans_sync}
 use Rattle.regex_hir.specs.contracts.hir.Hir as hir
 use Rattle.regex_hir.proofs.hir.Hir.TheLaws.TheKnot as knot
 use Rattle.regex_dfa.specs.contracts.dfa.Dfa as dfa

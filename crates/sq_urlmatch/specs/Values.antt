@@ -5,9 +5,9 @@ use Rattle.std.specs.List.{list_any}
 use Rattle.std.specs.declared.option.Option.{Option}
 use Rattle.sq_base.specs.Addresses.{Address, IsAddress}
 use Rattle.sq_base.specs.declared.addresses.Range.{Range}
-use Rattle.sq_index.specs.Members.{in_some_domain, in_some_range}
-use Rattle.sq_index.specs.Names.{has_host}
-use Rattle.sq_index.specs.Spans.{has_address, in_spans}
+use Rattle.sq_urlmatch.specs.Members.{in_some_domain, in_some_range}
+use Rattle.sq_urlmatch.specs.Names.{has_host}
+use Rattle.sq_urlmatch.specs.Spans.{has_address, in_spans}
 use Rattle.sq_rules.specs.declared.configs.Acl.{Acl}
 use Rattle.sq_rules.specs.declared.configs.Body.{Body}
 use Rattle.sq_rules.specs.declared.configs.Body.TheVariants as body

@@ -18,23 +18,37 @@
 //! list meets the type's rule, as the definition `holds` has it: it takes no memory, and reads each value once. Lists of
 //! addresses, domains and ports are looked up in what a setup keeps sorted or hashed, and patterns in what it keeps
 //! compiled.
+//!
+//! Of the lists, `AddrSet::make` takes ranges of addresses, `Spans::make` spans of numbers, and `DomainSet::make` domains;
+//! `has` of each says whether some value of that list holds an address, a number or a host, as a walk over the list would.
+//! `has` takes no memory. Addresses and numbers are sorted, and `has` is one binary search. Domains stand by the places of
+//! their hashes, about as many places as domains: `has` goes over the host once and looks at one place for each of its
+//! labels. The hash depends on the list's names alone, so no choice of hosts makes a look-up longer than the fullest
+//! place; a list that was written to have all its names at one place is walked. How fast it is, no contract says.
 #![tactic(auto)]
 
+mod addresses;
 mod clients;
 mod compiled;
 mod crossing;
+mod domains;
 mod leaves;
 mod matcher;
+mod names;
 mod patterns;
 mod programs;
 mod reading;
 mod requests;
 mod sets;
 mod setup;
+mod spans;
 mod subject;
 mod trees;
 
+pub use addresses::AddrSet;
+pub use domains::DomainSet;
 pub use patterns::Patterns;
 pub use reading::read_facts;
 pub use setup::{Setup, SetupFault};
+pub use spans::{Span, Spans};
 pub use trees::is_pattern;

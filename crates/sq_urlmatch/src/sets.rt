@@ -1,10 +1,12 @@
 //! The values of an acl in lists that are sorted or hashed.
 ghost use Rattle.std.specs.Prelude.{◌≡◌, ℕ, IfOk};
-ghost use Rattle.sq_index.specs.Spans.{in_spans};
+ghost use Rattle.sq_urlmatch.specs.Spans.{in_spans};
 ghost use Rattle.sq_urlmatch.specs.Values.{domains_in, in_some_ports, ports_in, ranges_in, HoldAlike, HoldValues};
 
+use crate::addresses::AddrSet;
+use crate::domains::DomainSet;
+use crate::spans::{Span, Spans};
 use sq_base::{Ranges, Texts, WantOfMemory};
-use sq_index::{AddrSet, DomainSet, Span, Spans};
 use sq_rules::{Acl, Body, Leaf, PortRange};
 use std::alloc::Global;
 

@@ -1,7 +1,7 @@
 //! A configuration with its compiled patterns and its sorted and hashed lists.
 ghost use Rattle.std.specs.Prelude.{◌≡◌, ◌≢◌, Some, None, IfOk, IfErr};
 ghost use Rattle.std.specs.Arc.{arc_value};
-ghost use Rattle.sq_index.specs.Members.{in_some_domain, in_some_range};
+ghost use Rattle.sq_urlmatch.specs.Members.{in_some_domain, in_some_range};
 ghost use Rattle.sq_rules.specs.Patterns.{some_found};
 ghost use Rattle.sq_urlmatch.specs.Found.{fault_from, finds_at};
 ghost use Rattle.sq_urlmatch.specs.Values.{domains_at, in_some_ports, ports_at, ranges_at};

@@ -1,5 +1,5 @@
 use Rattle.std.proofs.Common.{◌≡◌, ℕ, take}
-use Rattle.sq_index.specs.Spans.{in_spans}
+use Rattle.sq_urlmatch.specs.Spans.{in_spans}
 use Rattle.sq_urlmatch.specs.Values.{in_some_ports}
 use Rattle.sq_urlmatch.proofs.sets.port_spans.Given as goal
 

@@ -1,7 +1,7 @@
 use Rattle.std.proofs.Common.{◌≡◌, Some, ap, length, ltb-true, sym, ◌∙◌}
 use Rattle.std.proofs.lemmas.Option.{slice_get-get_or}
 use Rattle.std.specs.List.{slice_get}
-use Rattle.sq_index.specs.Members.{in_some_domain}
+use Rattle.sq_urlmatch.specs.Members.{in_some_domain}
 use Rattle.sq_urlmatch.specs.Values.{domains_at}
 use Rattle.sq_urlmatch.proofs.setup.Setup.has_host.Goals as goal
 

@@ -1,5 +1,0 @@
-mod MergeLaws
-mod NameLaws
-mod SearchLaws
-mod TableLaws
-pub mod ThreadLaws
