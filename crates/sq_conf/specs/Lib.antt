@@ -1,4 +1,6 @@
 pub mod ClassDrafts
 pub mod Forms
+pub mod LexFaults
 pub mod Targets
 pub mod Texts
+pub mod Words

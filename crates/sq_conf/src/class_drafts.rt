@@ -8,11 +8,11 @@ ghost use Rattle.sq_rules.specs.RewriteLines.{children_step, most_children};
 ghost use Rattle.sq_rules.specs.Steps.{is_empty, over};
 
 use crate::class_options::{children_option, is_option, option_of};
+use crate::config_words::begins;
 use crate::cuts::behind;
 use crate::faults::ReadFault;
 use crate::numbers::number_in;
 use crate::tokens::token_of;
-use crate::words::begins;
 use sq_base::{Copying, Listed, Text, Texts, WantOfMemory};
 use sq_rules::{
     CACHE_LIMIT, CHILDREN_LIMIT, Class, ClassOption, GRACE_LIMIT, Kind, QUEUE_LIMIT, SECONDS_LIMIT,

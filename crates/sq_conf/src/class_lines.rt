@@ -7,9 +7,9 @@ ghost use Rattle.sq_rules.specs.Limits.{name_limit};
 ghost use Rattle.sq_rules.specs.Lookups.{classes_within};
 
 use crate::class_drafts::ClassDraft;
+use crate::config_words::ConfigWords;
 use crate::faults::ReadFault;
 use crate::port_lines::note_if;
-use crate::words::ConfigWords;
 use sq_base::{Copying, Text, WantOfMemory};
 use sq_drafts::Builder;
 use sq_rules::{Kind, NAME_LIMIT};

@@ -4,9 +4,9 @@ ghost use Rattle.sq_conf.specs.Forms.{Gives};
 ghost use Rattle.sq_rules.specs.AclValues.{is_unquoted, range_value, plain_value, port_number, ports_of, port_value, method_value, maxconn_value, maxconn_values};
 ghost use Rattle.sq_rules.specs.Steps.{some_of, over, one_more};
 
+use crate::config_words::{ConfigWords, begins};
 use crate::cuts::{before, behind, holds};
 use crate::faults::ReadFault;
-use crate::words::{ConfigWords, begins};
 use httparse::is_token;
 use sq_addr::read_range;
 use sq_base::{Copying, Listed, PORT_LIMIT, Range, Ranges, Text, Texts, number_of};

@@ -6,19 +6,27 @@
 //! early groups nest deeper, or reach a helper, at line after line takes quadratic time. The patterns are
 //! compiled at the end. It promises that the answer is exactly the one that the definition gives
 //! (`conf_gives`, `conf_refuses` of `sq_rules`), unless memory runs out.
+//!
+//! Below it are the lines of squid.conf and their words. `lex` gives the lines before the first faulty one, and its fault;
+//! `words` gives all lines, or that fault as its error. A line has the number of its first part. Both take time and memory
+//! in proportion to the text.
 #![tactic(auto)]
 
 mod acl_lines;
 mod class_drafts;
 mod class_lines;
 mod class_options;
+mod config_words;
 mod cuts;
 mod directives;
 mod faults;
 mod finds;
 mod groups;
 mod header_lines;
+mod joining;
 mod leaf_values;
+mod lex_faults;
+mod lexing;
 mod lookup_lines;
 mod numbers;
 mod pairs;
@@ -26,10 +34,13 @@ mod pool_lines;
 mod port_lines;
 mod reading;
 mod rewrite_lines;
+mod splitting;
 mod terms;
 mod times;
 mod tokens;
-mod words;
+mod wording;
 
 pub use faults::ConfFault;
+pub use lex_faults::LexFault;
+pub use lexing::{lex, words};
 pub use reading::read_config;

@@ -3,8 +3,8 @@ ghost use Rattle.std.specs.Prelude.{◌≡◌};
 ghost use Rattle.sq_conf.specs.Forms.{Gives};
 ghost use Rattle.sq_rules.specs.LookupLines.{behind_first, lookup_line, states_lookup, switch};
 
+use crate::config_words::ConfigWords;
 use crate::faults::ReadFault;
-use crate::words::ConfigWords;
 use sq_base::{Text, named};
 use sq_rules::Kind;
 

@@ -10,19 +10,19 @@ ghost use Rattle.sq_rules.specs.declared.kinds.Kind.{Kind};
 
 use crate::acl_lines::{acl_line, rule_line};
 use crate::class_lines::class_line;
+use crate::config_words::ConfigWords;
 use crate::directives::directive_of;
 use crate::faults::{ConfFault, ReadFault};
 use crate::header_lines::header_line;
+use crate::lexing::lex;
 use crate::lookup_lines::{behind_first, lookup_line, states_lookup};
 use crate::pool_lines::{
     initial_line, pool_access_line, pool_class_line, pool_pairs_line, pools_line,
 };
 use crate::port_lines::{note, port_line};
 use crate::rewrite_lines::{children_line, program_line};
-use crate::words::ConfigWords;
 use sq_base::{Line, LineFault, Text};
 use sq_drafts::{Builder, FinishFault};
-use sq_lex::lex;
 use sq_rules::{ConfError, Config, Directive, Kind, TEXT_LIMIT};
 use sq_urlmatch::{Setup, SetupFault};
 use std::alloc::Global;

@@ -4,8 +4,8 @@ ghost use Rattle.sq_conf.specs.Forms.{Gives, Makes};
 ghost use Rattle.sq_rules.specs.RewriteLines.{children_line, children_words, program_line, program_words, with_children};
 
 use crate::class_drafts::ClassDraft;
+use crate::config_words::ConfigWords;
 use crate::faults::ReadFault;
-use crate::words::ConfigWords;
 use sq_base::{Copying, Listed, Text, Texts, WantOfMemory};
 use sq_drafts::Builder;
 use sq_rules::{Class, Kind};

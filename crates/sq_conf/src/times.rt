@@ -4,11 +4,11 @@ ghost use Rattle.sq_conf.specs.Forms.{Gives};
 ghost use Rattle.sq_rules.specs.AclValues.{day_bits, days_of, short_number, minute_of, period_of, hours_value, behind_days, time_value, time_values};
 ghost use Rattle.sq_rules.specs.Times.{day_minutes};
 
+use crate::config_words::ConfigWords;
 use crate::cuts::{before, behind};
 use crate::faults::ReadFault;
 use crate::leaf_values::is_unquoted;
 use crate::numbers::digits_of;
-use crate::words::ConfigWords;
 use sq_base::{Listed, Text, named};
 use sq_rules::{DAY_MINUTES, Hour, Hours, Kind};
 use std::alloc::Global;

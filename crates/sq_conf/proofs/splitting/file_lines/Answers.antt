@@ -1,7 +1,7 @@
 use Rattle.std.proofs.Common.{◌++◌, ◌∷◌, [], ◌∙◌, ap}
-use Rattle.sq_lex.proofs.LineLaws.{lf_step, byte_step, last_step}
-use Rattle.sq_lex.proofs.splitting.file_lines.Goals as goal
-use Rattle.sq_lex.proofs.splitting.file_lines.Goals.{then-byte-eq10+in_ok-push, else-byte-eq10+in_ok-push-2}
+use Rattle.sq_conf.proofs.LineLaws.{lf_step, byte_step, last_step}
+use Rattle.sq_conf.proofs.splitting.file_lines.Goals as goal
+use Rattle.sq_conf.proofs.splitting.file_lines.Goals.{then-byte-eq10+in_ok-push, else-byte-eq10+in_ok-push-2}
 
 pub loop-byte-preserved : goal.loop-byte-preserved
 loop-byte-preserved c =

@@ -1,7 +1,7 @@
 use Rattle.std.proofs.Common.{◌≡◌, ℕ, List, Bool, true, false, refl, sym}
 use Rattle.std.proofs.lemmas.Str.{IsUtf8-from_is_utf8, is_utf8-from_IsUtf8}
 use Rattle.std.specs.Str.{IsUtf8, is_utf8}
-use Rattle.sq_lex.proofs.lexing.is_utf8.Goals as goal
+use Rattle.sq_conf.proofs.lexing.is_utf8.Goals as goal
 
 not_utf8 : (bytes : List ℕ) (b : Bool) → is_utf8 bytes ≡ b → ¬ (IsUtf8 bytes) → false ≡ b
 not_utf8 bytes true e h = absurd (h (IsUtf8-from_is_utf8 bytes e))

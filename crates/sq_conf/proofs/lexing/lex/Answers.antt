@@ -1,9 +1,9 @@
 use Rattle.std.proofs.Common.{◌≡◌, ◌∙◌, subst, IfOk, length, ap, arith}
 use Rattle.sq_base.specs.Lines.{joined, lexed_lines, lexed, file_lines}
 use Rattle.sq_base.specs.declared.config_lines.Lexed.{Lexed}
-use Rattle.sq_lex.proofs.BareLaws.{bare_by}
-use Rattle.sq_lex.proofs.LineLaws.{file_lines_count}
-use Rattle.sq_lex.proofs.lexing.lex.Goals as goal
+use Rattle.sq_conf.proofs.BareLaws.{bare_by}
+use Rattle.sq_conf.proofs.LineLaws.{file_lines_count}
+use Rattle.sq_conf.proofs.lexing.lex.Goals as goal
 
 pub join-requires : goal.join-requires
 join-requires c = omega (

@@ -3,11 +3,11 @@ ghost use Rattle.std.specs.Prelude.{◌≡◌, ◌<◌, ◌^◌, length, true, N
 ghost use Rattle.std.specs.List.{list_all};
 ghost use Rattle.std.specs.Str.{is_utf8};
 ghost use Rattle.sq_base.specs.Lines.{fault_of, lexed_to, lexed_lines, lexed};
-ghost use Rattle.sq_lex.specs.Faults.{IsFaultOf};
-ghost use Rattle.sq_lex.specs.Words.{is_bare_line};
+ghost use Rattle.sq_conf.specs.LexFaults.{IsFaultOf};
+ghost use Rattle.sq_conf.specs.Words.{is_bare_line};
 
-use crate::faults::LexFault;
 use crate::joining::{Joined, join};
+use crate::lex_faults::LexFault;
 use crate::splitting::file_lines;
 use crate::wording::words_of;
 use sq_base::{Lexed, Line, LineFault, Lines, Listed, WantOfMemory};

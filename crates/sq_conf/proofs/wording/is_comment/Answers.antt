@@ -1,7 +1,7 @@
 use Rattle.std.proofs.Common.{arith}
 use Rattle.std.proofs.lemmas.Grind.{common_steps}
-use Rattle.sq_lex.proofs.WordLaws.{comment_at, comment_later, comment_nowhere}
-use Rattle.sq_lex.proofs.wording.is_comment.Goals as goal
+use Rattle.sq_conf.proofs.WordLaws.{comment_at, comment_later, comment_nowhere}
+use Rattle.sq_conf.proofs.wording.is_comment.Goals as goal
 
 pub returns-then-not-is_blank : goal.returns-then-not-is_blank
 returns-then-not-is_blank c = comment_at c.args.line.now c.loop-byte.byte-index c.loop-byte-test.true

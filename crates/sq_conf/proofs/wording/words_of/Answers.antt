@@ -1,7 +1,7 @@
 use Rattle.std.proofs.Common.{sym, ◌∙◌}
-use Rattle.sq_lex.proofs.WordLaws.{words_end, words_skip, words_stop, words_longer, words_last_one, words_no_more}
-use Rattle.sq_lex.proofs.wording.words_of.Goals as goal
-use Rattle.sq_lex.proofs.wording.words_of.Goals.{then-is_blank+then-not-is_empty+in_ok-push, then-is_blank+else-not-is_empty, else-is_blank+else-begins_comment+in_ok-push-2, then-not-is_empty-2+in_ok-push-3, else-not-is_empty-2}
+use Rattle.sq_conf.proofs.WordLaws.{words_end, words_skip, words_stop, words_longer, words_last_one, words_no_more}
+use Rattle.sq_conf.proofs.wording.words_of.Goals as goal
+use Rattle.sq_conf.proofs.wording.words_of.Goals.{then-is_blank+then-not-is_empty+in_ok-push, then-is_blank+else-not-is_empty, else-is_blank+else-begins_comment+in_ok-push-2, then-not-is_empty-2+in_ok-push-3, else-not-is_empty-2}
 
 pub returns-then-begins_comment : goal.returns-then-begins_comment
 returns-then-begins_comment c =

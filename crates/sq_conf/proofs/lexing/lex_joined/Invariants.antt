@@ -1,7 +1,7 @@
 use Rattle.std.proofs.Common.{◌≡◌, drop}
 use Rattle.sq_base.specs.Lines.{lexed_lines}
-use Rattle.sq_lex.proofs.LexLaws.{after}
-use Rattle.sq_lex.proofs.lexing.lex_joined.Given as goal
+use Rattle.sq_conf.proofs.LexLaws.{after}
+use Rattle.sq_conf.proofs.lexing.lex_joined.Given as goal
 
 -- the lines so far, then those of the rest, are all
 abbrev pub invariant-loop-line : goal.invariant-loop-line

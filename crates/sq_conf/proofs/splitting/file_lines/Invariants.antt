@@ -1,7 +1,7 @@
 use Rattle.std.proofs.Common.{◌≡◌, ◌++◌, drop, All, false}
 use Rattle.std.specs.List.{slice_split}
 use Rattle.sq_base.specs.Lines.{is_lf, trimmed_lines}
-use Rattle.sq_lex.proofs.splitting.file_lines.Given as goal
+use Rattle.sq_conf.proofs.splitting.file_lines.Given as goal
 
 -- the lines so far, then those of the piece under way and the rest, are all; the piece has no LF
 abbrev pub invariant-loop-byte : goal.invariant-loop-byte

@@ -1,6 +1,6 @@
 use Rattle.std.proofs.Common.{◌≡◌, ◌+◌, drop}
-use Rattle.sq_lex.proofs.JoinLaws.{JoinedSoFar}
-use Rattle.sq_lex.proofs.joining.join.Given as goal
+use Rattle.sq_conf.proofs.JoinLaws.{JoinedSoFar}
+use Rattle.sq_conf.proofs.joining.join.Given as goal
 
 abbrev pub invariant-loop-line : goal.invariant-loop-line
 invariant-loop-line l = JoinedSoFar l.all l.first l.front l.next (drop l.line-index l.lines) l.lines

@@ -15,7 +15,7 @@ pub enum LexFault {
 
 impl From<WantOfMemory> for LexFault {
     ghost use Rattle.std.specs.Prelude.{◌≡◌};
-    ghost use Rattle.sq_lex.specs.declared.faults.LexFault.TheVariants as lex;
+    ghost use Rattle.sq_conf.specs.declared.lex_faults.LexFault.TheVariants as lex;
 
     ghost from_gives = { λ _ e. e ≡ lex.WantOfMemory };
 
@@ -26,7 +26,7 @@ impl From<WantOfMemory> for LexFault {
 
 impl From<LineFault> for LexFault {
     ghost use Rattle.std.specs.Prelude.{◌≡◌};
-    ghost use Rattle.sq_lex.specs.Faults.{lex_fault};
+    ghost use Rattle.sq_conf.specs.LexFaults.{lex_fault};
 
     ghost from_gives = { λ f e. e ≡ lex_fault f };
 

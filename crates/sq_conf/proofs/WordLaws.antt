@@ -7,7 +7,7 @@ use Rattle.std.proofs.lemmas.List.Splits.{slice_split_at, slice_split_none, slic
 use Rattle.std.specs.List.{slice_split, onto_first}
 use Rattle.sq_base.proofs.CommonLaws.{cons_at}
 use Rattle.sq_base.specs.Lines.{is_blank, is_word, begins_comment, first_begins, pieces, words_of, is_comment}
-use Rattle.sq_lex.proofs.LineLaws.{none_pass, one_fails}
+use Rattle.sq_conf.proofs.LineLaws.{none_pass, one_fails}
 
 -- a blank before a line
 pieces_blank : (b : ℕ) (rest : List ℕ) → is_blank b ≡ true → pieces (b ∷ rest) ≡ pieces rest

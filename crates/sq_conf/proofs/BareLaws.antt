@@ -5,7 +5,7 @@ use Rattle.std.specs.List.{list_all, list_any, onto_first, slice_split}
 use Rattle.sq_base.specs.Lines.{Joined, fault_of, file_lines, is_blank, is_word, joined, lexed, lexed_before, lexed_lines, line_before, words_of}
 use Rattle.sq_base.specs.declared.config_lines.Lexed.{Lexed}
 use Rattle.sq_base.specs.declared.config_lines.LineFault.{LineFault}
-use Rattle.sq_lex.specs.Words.{are_bare, is_bare, is_bare_line}
+use Rattle.sq_conf.specs.Words.{are_bare, is_bare, is_bare_line}
 
 onto_bare : (b : ℕ) → is_blank b ≡ false → (parts : List (List ℕ)) → are_bare parts ≡ true
     → are_bare (onto_first b parts) ≡ true

@@ -1,6 +1,6 @@
 use Rattle.std.proofs.Common.{◌≡◌, drop}
 use Rattle.sq_base.specs.Lines.{is_comment}
-use Rattle.sq_lex.proofs.wording.is_comment.Given as goal
+use Rattle.sq_conf.proofs.wording.is_comment.Given as goal
 
 -- only blanks were passed
 abbrev pub invariant-loop-byte : goal.invariant-loop-byte

@@ -3,8 +3,8 @@ use Rattle.std.specs.Prelude.{◌≡◌, ⊤, Some}
 use Rattle.std.specs.declared.option.Option.{Option}
 use Rattle.sq_base.specs.declared.config_lines.LineFault.{LineFault}
 use Rattle.sq_base.specs.declared.config_lines.LineFault.TheVariants as line
-use Rattle.sq_lex.specs.declared.faults.LexFault.{LexFault}
-use Rattle.sq_lex.specs.declared.faults.LexFault.TheVariants as lex
+use Rattle.sq_conf.specs.declared.lex_faults.LexFault.{LexFault}
+use Rattle.sq_conf.specs.declared.lex_faults.LexFault.TheVariants as lex
 
 -- a line's fault as an error
 abbrev pub lex_fault : LineFault → LexFault

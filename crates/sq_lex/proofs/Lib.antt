@@ -1,5 +1,0 @@
-pub mod BareLaws
-mod JoinLaws
-mod LexLaws
-mod LineLaws
-mod WordLaws
