@@ -6,9 +6,9 @@ use Rattle.sq_base.specs.Addresses.{Address}
 use Rattle.sq_base.specs.Requests.{HttpRequest}
 use Rattle.sq_base.specs.declared.plans.BodyPlan.{BodyPlan}
 use Rattle.sq_checks.specs.Records.{Judged}
-use Rattle.sq_head.specs.BodyPlans.{request_plan}
-use Rattle.sq_head.specs.declared.faults.BadBody.{BadBody}
-use Rattle.sq_head.specs.declared.own.Own.TheVariants.{NotImplemented, NoMemory}
+use Rattle.sq_message.specs.BodyPlans.{request_plan}
+use Rattle.sq_message.specs.declared.faults.BadBody.{BadBody}
+use Rattle.sq_message.specs.declared.own.Own.TheVariants.{NotImplemented, NoMemory}
 use Rattle.sq_headers.specs.Access.{HeaderAccess}
 use Rattle.sq_outside.specs.Dials.{Dialled}
 use Rattle.sq_turns.specs.Begins.{fits_hosts}

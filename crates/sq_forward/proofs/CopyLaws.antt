@@ -2,12 +2,12 @@
 use Rattle.std.proofs.Common.{◌≡◌, ℕ, ◌≤◌, Bool, true, false, List, [], ◌++◌, take, drop, Option, Some, None, IfSome, refl, sym, ap, subst, ◌∙◌, append_assoc, append-nil}
 use Rattle.std.specs.Io.KnownBytes.{Keeps, IsAtEnd, prepend_known}
 use Rattle.sq_base.specs.declared.plans.BodyPlan.{BodyPlan}
-use Rattle.sq_body.specs.declared.body_state.BodyState.{BodyState}
-use Rattle.sq_body.specs.declared.body_state.BodyState.TheVariants as place
-use Rattle.sq_body.specs.Bodies.{Walk, after, halted, walk, body_of, start, is_whole_body, is_refused}
-use Rattle.sq_body.specs.Feeding.{Feeds, Spoils, WroteOfBody}
-use Rattle.sq_body.proofs.BodyLaws.{after_after, walk_none, walk_refused}
-use Rattle.sq_body.proofs.PieceLaws.{walk_whole, walk_part, walk_no_rest, walk_grows}
+use Rattle.sq_message.specs.declared.body_state.BodyState.{BodyState}
+use Rattle.sq_message.specs.declared.body_state.BodyState.TheVariants as place
+use Rattle.sq_message.specs.Bodies.{Walk, after, halted, walk, body_of, start, is_whole_body, is_refused}
+use Rattle.sq_message.specs.Feeding.{Feeds, Spoils, WroteOfBody}
+use Rattle.sq_message.proofs.BodyLaws.{after_after, walk_none, walk_refused}
+use Rattle.sq_message.proofs.PieceLaws.{walk_whole, walk_part, walk_no_rest, walk_grows}
 use Rattle.sq_outside.specs.Causes.{count_limit}
 use Rattle.sq_forward.specs.Meters.{PaysAll, PaysPart, piece_limit, metered}
 use Rattle.sq_forward.specs.Copying.{CopiesBody, Copies, CopiesPiece, PieceFed, PieceUnfed}

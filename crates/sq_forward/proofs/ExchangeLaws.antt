@@ -5,13 +5,13 @@ use Rattle.std.proofs.KnownBytes.{Appends-trans}
 use Rattle.sq_base.specs.Addresses.{Address}
 use Rattle.sq_base.specs.Requests.{HttpRequest}
 use Rattle.sq_base.specs.declared.plans.BodyPlan.{BodyPlan}
-use Rattle.sq_body.specs.Bodies.{Walk, body_of, is_whole_body, is_refused}
+use Rattle.sq_message.specs.Bodies.{Walk, body_of, is_whole_body, is_refused}
 use Rattle.sq_outside.specs.Causes.{count_limit}
 use Rattle.sq_outside.specs.Output.{IsPrefix, Grew}
 use Rattle.sq_outside.proofs.Writing.{IsPrefix_refl, IsPrefix_nil, IsPrefix_after, IsPrefix_more, Grew_whole}
-use Rattle.sq_head.specs.ReplyHeads.{reply_head_out_where}
-use Rattle.sq_head.specs.RequestHeads.{head_out_where, is_chunked}
-use Rattle.sq_head.specs.declared.replies.ReplyHead.{ReplyHead}
+use Rattle.sq_message.specs.ReplyHeads.{reply_head_out_where}
+use Rattle.sq_message.specs.RequestHeads.{head_out_where, is_chunked}
+use Rattle.sq_message.specs.declared.replies.ReplyHead.{ReplyHead}
 use Rattle.sq_headers.specs.Access.{HeaderAccess}
 use Rattle.sq_forward.specs.Exchanges.{shape_of, answered, continue_part, interim_texts, replied, replied_if, Fronts, EndsExchange, Exchanges, ExchangeHasCause, message, sink, exchange_seen}
 use Rattle.sq_forward.specs.Leading.{LeadsReply, LeadHasCause, PaysHeads, SentReply, SendsReply}

@@ -5,7 +5,7 @@ use Rattle.std.proofs.lemmas.Option.{none-some, same_Some}
 use Rattle.std.specs.Io.KnownBytes.{prepend_known}
 use Rattle.sq_request.specs.Endings.{head_end}
 use Rattle.sq_request.proofs.MoreLaws.{head_end_more, head_end_within}
-use Rattle.sq_head.specs.ReplyHeads.{most_bytes}
+use Rattle.sq_message.specs.ReplyHeads.{most_bytes}
 use Rattle.sq_forward.specs.Heads.{IsTooLarge}
 
 -- the head ahead is over the limit

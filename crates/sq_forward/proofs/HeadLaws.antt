@@ -5,9 +5,9 @@ use Rattle.std.proofs.lemmas.Option.{none-some, same_Some}
 use Rattle.std.specs.Io.KnownBytes.{Keeps, prepend_known}
 use Rattle.sq_request.specs.Endings.{head_end, IsWholeHead}
 use Rattle.sq_request.proofs.MoreLaws.{head_end_more}
-use Rattle.sq_head.specs.ReplyHeads.{HasReply, RefusesReply}
-use Rattle.sq_head.specs.declared.faults.ReplyHeadFault.TheVariants.{BadHead}
-use Rattle.sq_head.specs.declared.replies.ReplyHead.{ReplyHead}
+use Rattle.sq_message.specs.ReplyHeads.{HasReply, RefusesReply}
+use Rattle.sq_message.specs.declared.faults.ReplyHeadFault.TheVariants.{BadHead}
+use Rattle.sq_message.specs.declared.replies.ReplyHead.{ReplyHead}
 use Rattle.sq_forward.specs.Replies.{BeginsHead}
 use Rattle.sq_forward.specs.Leading.{TakenHead}
 use Rattle.sq_forward.specs.Heads.{IsTooLarge}

@@ -2,14 +2,14 @@
 use Rattle.std.proofs.Common.{◌≡◌, ℕ, ◌≤◌, List, ◌++◌, Bool, true, false, Option, Some, None, Ok, Err, refl, sym, subst, arith}
 use Rattle.sq_base.specs.Requests.{HttpRequest}
 use Rattle.sq_base.specs.declared.plans.BodyPlan.{BodyPlan}
-use Rattle.sq_body.specs.Bodies.{Walk, body_of, is_whole_body, is_refused}
+use Rattle.sq_message.specs.Bodies.{Walk, body_of, is_whole_body, is_refused}
 use Rattle.sq_outside.specs.Causes.{count_limit, Rose}
-use Rattle.sq_head.specs.BodyPlans.{reply_plan}
-use Rattle.sq_head.specs.ReplyHeads.{reply_head_out_where}
-use Rattle.sq_head.specs.declared.faults.BadBody as bad
-use Rattle.sq_head.specs.declared.replies.ReplyHead.{ReplyHead}
+use Rattle.sq_message.specs.BodyPlans.{reply_plan}
+use Rattle.sq_message.specs.ReplyHeads.{reply_head_out_where}
+use Rattle.sq_message.specs.declared.faults.BadBody as bad
+use Rattle.sq_message.specs.declared.replies.ReplyHead.{ReplyHead}
 use Rattle.sq_headers.specs.Access.{HeaderAccess}
-use Rattle.sq_head.specs.declared.replies.Shape.{Shape}
+use Rattle.sq_message.specs.declared.replies.Shape.{Shape}
 use Rattle.sq_forward.specs.Copying.{CopiesBody, Copies, CopyHasCause, dry_after_copy}
 use Rattle.sq_forward.specs.Exchanges.{shape_of, is_to_close, body_end, replied_by, replied, ExchangeHasCause, dry_after_exchange}
 use Rattle.sq_forward.specs.Leading.{SentReply, SendsReply, body_sent, complete}

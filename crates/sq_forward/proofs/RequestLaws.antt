@@ -5,13 +5,13 @@ use Rattle.std.proofs.KnownBytes.{Appends-trans}
 use Rattle.sq_base.specs.Addresses.{Address}
 use Rattle.sq_base.specs.Requests.{HttpRequest}
 use Rattle.sq_base.specs.declared.plans.BodyPlan.{BodyPlan}
-use Rattle.sq_body.specs.declared.body_state.BodyState.{BodyState}
-use Rattle.sq_body.specs.declared.body_state.BodyState.TheVariants as place
-use Rattle.sq_body.specs.Bodies.{Walk, body_of, is_whole_body, is_refused}
+use Rattle.sq_message.specs.declared.body_state.BodyState.{BodyState}
+use Rattle.sq_message.specs.declared.body_state.BodyState.TheVariants as place
+use Rattle.sq_message.specs.Bodies.{Walk, body_of, is_whole_body, is_refused}
 use Rattle.sq_outside.specs.Causes.{Rose}
 use Rattle.sq_outside.specs.Output.{IsPrefix, Grew}
 use Rattle.sq_outside.proofs.Writing.{IsPrefix_nil, Grew_none, Grew_whole, Grew_more, Grew_after}
-use Rattle.sq_head.specs.RequestHeads.{head_out_where, is_chunked}
+use Rattle.sq_message.specs.RequestHeads.{head_out_where, is_chunked}
 use Rattle.sq_headers.specs.Access.{HeaderAccess}
 use Rattle.sq_forward.specs.Copying.{CopiesBody, Copies, CopyHasCause, dry_after_copy}
 use Rattle.sq_forward.specs.Exchanges.{continue_part, dry_after_exchange, message, sink}

@@ -2,9 +2,9 @@
 use Rattle.std.proofs.Common.{◌≡◌, ◌≤◌, inl, inr, ℕ, Bool, true, false, List, [], ◌++◌, Option, Some, None, refl, sym, ap, subst, ◌∙◌, arith, append-nil}
 use Rattle.std.specs.Io.KnownBytes.{Appends, IsAtEnd}
 use Rattle.sq_base.specs.declared.plans.BodyPlan.TheVariants as plan
-use Rattle.sq_body.specs.declared.body_state.BodyState.TheVariants.{Open}
-use Rattle.sq_body.specs.Bodies.{Walk, body_of, walk}
-use Rattle.sq_body.proofs.BodyLaws.{copy_open, walk_none}
+use Rattle.sq_message.specs.declared.body_state.BodyState.TheVariants.{Open}
+use Rattle.sq_message.specs.Bodies.{Walk, body_of, walk}
+use Rattle.sq_message.proofs.BodyLaws.{copy_open, walk_none}
 use Rattle.sq_forward.specs.Copying.{CopiesBody, Copies, dry_after_copy}
 use Rattle.sq_forward.specs.Meters.{PaysAll, PaysPart, piece_limit, metered}
 use Rattle.sq_forward.specs.Tunnels.{way_of, dry_after_way, spare_of_way, JoinsWays, spare_of_tunnel, GoesInPart, GoesWhole, GoesPaid, PaidAtEnd, GoesGranted}

@@ -3,9 +3,9 @@ use Rattle.std.specs.Prelude.{◌≡◌, ℕ, List, [], ◌++◌, Bool, true, fa
 use Rattle.std.specs.declared.option.Option.{Option}
 use Rattle.std.specs.Io.KnownBytes.{IsAtEnd}
 use Rattle.sq_base.specs.declared.plans.BodyPlan.{BodyPlan}
-use Rattle.sq_body.specs.declared.body_state.BodyState.{BodyState}
-use Rattle.sq_body.specs.Bodies.{Walk, after, walk, body_of, is_whole_body, is_refused}
-use Rattle.sq_body.specs.Feeding.{Feeds}
+use Rattle.sq_message.specs.declared.body_state.BodyState.{BodyState}
+use Rattle.sq_message.specs.Bodies.{Walk, after, walk, body_of, is_whole_body, is_refused}
+use Rattle.sq_message.specs.Feeding.{Feeds}
 use Rattle.sq_forward.specs.Meters.{Metered, PaysAll, PaysPart, piece_limit, dry_limit}
 use Rattle.sq_forward.specs.declared.copying.Copied.{Copied}
 use Rattle.sq_forward.specs.declared.copying.Copied.TheVariants.{Whole, Cut, Bad, NoSource, NoSink, Starved, WantOfMemory}

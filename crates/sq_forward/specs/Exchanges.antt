@@ -8,16 +8,16 @@ use Rattle.sq_base.specs.Addresses.{Address}
 use Rattle.sq_base.specs.Requests.{HttpRequest}
 use Rattle.sq_base.specs.declared.plans.BodyPlan.{BodyPlan}
 use Rattle.sq_base.specs.declared.plans.BodyPlan.TheVariants as plan
-use Rattle.sq_body.specs.Bodies.{Walk, body_of, is_whole_body, is_refused}
+use Rattle.sq_message.specs.Bodies.{Walk, body_of, is_whole_body, is_refused}
 use Rattle.sq_outside.specs.Output.{IsPrefix, Grew}
-use Rattle.sq_head.specs.BodyPlans.{reply_plan}
-use Rattle.sq_head.specs.ReplyHeads.{reply_head_out_where}
-use Rattle.sq_head.specs.RequestHeads.{crlf, head_out_where, is_chunked}
-use Rattle.sq_head.specs.Wishes.{wants_close, wants_continue}
-use Rattle.sq_head.specs.declared.faults.BadBody as bad
-use Rattle.sq_head.specs.declared.replies.ReplyHead.{ReplyHead}
+use Rattle.sq_message.specs.BodyPlans.{reply_plan}
+use Rattle.sq_message.specs.ReplyHeads.{reply_head_out_where}
+use Rattle.sq_message.specs.RequestHeads.{crlf, head_out_where, is_chunked}
+use Rattle.sq_message.specs.Wishes.{wants_close, wants_continue}
+use Rattle.sq_message.specs.declared.faults.BadBody as bad
+use Rattle.sq_message.specs.declared.replies.ReplyHead.{ReplyHead}
 use Rattle.sq_headers.specs.Access.{HeaderAccess}
-use Rattle.sq_head.specs.declared.replies.Shape.{Shape}
+use Rattle.sq_message.specs.declared.replies.Shape.{Shape}
 use Rattle.sq_forward.specs.Meters.{Metered, granted_after, dry_limit, piece_limit}
 use Rattle.sq_forward.specs.Replies.{Reading, IsReading}
 use Rattle.sq_forward.specs.declared.exchanging.Exchanged.{Exchanged}

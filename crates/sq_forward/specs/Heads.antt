@@ -2,7 +2,7 @@
 use Rattle.std.specs.Prelude.{◌≡◌, ℕ, ◌≤◌, ◌<◌, List, length, take, Some, None, IfSome, ⊤}
 use Rattle.std.specs.declared.option.Option.{Option}
 use Rattle.sq_request.specs.Endings.{head_end, IsWholeHead}
-use Rattle.sq_head.specs.ReplyHeads.{most_bytes}
+use Rattle.sq_message.specs.ReplyHeads.{most_bytes}
 use Rattle.sq_forward.specs.declared.heads.HeadFound.{HeadFound}
 use Rattle.sq_forward.specs.declared.heads.HeadFound.TheVariants as found
 

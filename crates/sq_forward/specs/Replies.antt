@@ -2,8 +2,8 @@
 use Rattle.std.specs.Prelude.{◌≡◌, ◌⊎◌, ℕ, ◌≤◌, List, [], ◌∷◌, ◌++◌, length, Bool, true, false, ◌&&◌, not, ◌==◌, nat_le, nat_lt, Some, None}
 use Rattle.std.specs.declared.option.Option.{Option}
 use Rattle.sq_request.specs.Endings.{IsWholeHead}
-use Rattle.sq_head.specs.ReplyHeads.{HasReply}
-use Rattle.sq_head.specs.declared.replies.ReplyHead.{ReplyHead}
+use Rattle.sq_message.specs.ReplyHeads.{HasReply}
+use Rattle.sq_message.specs.declared.replies.ReplyHead.{ReplyHead}
 
 -- so many heads at most are passed on before that of the reply
 abbrev pub interim_limit : ℕ

@@ -2,9 +2,9 @@
 use Rattle.std.specs.Prelude.{◌≡◌, ℕ, List, ◌++◌, true, false, Some, None, IfSome, ⊤}
 use Rattle.std.specs.declared.option.Option.{Option}
 use Rattle.std.specs.Io.KnownBytes.{Appends}
-use Rattle.sq_body.specs.Bodies.{Walk, body_of, is_whole_body, is_refused}
+use Rattle.sq_message.specs.Bodies.{Walk, body_of, is_whole_body, is_refused}
 use Rattle.sq_outside.specs.Output.{IsPrefix, Grew}
-use Rattle.sq_head.specs.RequestHeads.{head_out_where, is_chunked}
+use Rattle.sq_message.specs.RequestHeads.{head_out_where, is_chunked}
 use Rattle.sq_headers.specs.Access.{HeaderAccess}
 use Rattle.sq_forward.specs.Exchanges.{Message, SinkSeen, continue_part}
 use Rattle.sq_forward.specs.declared.copying.Copied.{Copied}

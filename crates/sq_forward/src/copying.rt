@@ -10,7 +10,7 @@ use crate::half::Half;
 use crate::meter::Meter;
 use crate::paying::{Unpaid, pay};
 use sq_base::{BodyPlan, Text};
-use sq_body::{BodyCursor, Fed, FeedFault};
+use sq_message::{BodyCursor, Fed, FeedFault};
 use sq_outside::{Sink, Source, Unread};
 use std::alloc::Global;
 use std::mem;

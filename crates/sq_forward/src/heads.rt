@@ -1,7 +1,7 @@
 //! Heads of messages, as they come.
 ghost use Rattle.std.specs.Prelude.{◌≡◌, ◌≤◌, ◌+◌, length, max};
 ghost use Rattle.std.specs.Io.KnownBytes.{Keeps};
-ghost use Rattle.sq_head.specs.ReplyHeads.{most_bytes};
+ghost use Rattle.sq_message.specs.ReplyHeads.{most_bytes};
 ghost use Rattle.sq_outside.specs.Causes.{Rose};
 ghost use Rattle.sq_forward.specs.Halves.{to_come, read_limit};
 ghost use Rattle.sq_forward.specs.Heads.{FindsHead};

@@ -1,7 +1,7 @@
 //! The reply of an exchange, on its way to the client.
 ghost use Rattle.std.specs.Prelude.{◌≡◌, ◌≤◌, ◌+◌, length, max, IfSome, IfErr, IsErrOf};
-ghost use Rattle.sq_head.specs.BodyPlans.{reply_plan};
-ghost use Rattle.sq_head.specs.ReplyHeads.{most_bytes};
+ghost use Rattle.sq_message.specs.BodyPlans.{reply_plan};
+ghost use Rattle.sq_message.specs.ReplyHeads.{most_bytes};
 ghost use Rattle.sq_headers.specs.Access.{access_by};
 ghost use Rattle.sq_outside.specs.Causes.{Rose};
 ghost use Rattle.sq_forward.specs.Exchanges.{shape_of, is_to_close, interim_text, ExchangeHasCause, dry_after_exchange};
@@ -18,10 +18,10 @@ use crate::meter::Meter;
 use crate::outgoing::Outgoing;
 use crate::paying::{Unpaid, pay};
 use sq_base::{BodyPlan, Request};
-use sq_head::{
+use sq_headers::reply_head;
+use sq_message::{
     BadBody, ReplyHead, ReplyHeadFault, Shape, read_reply_head, reply_plan, wants_close,
 };
-use sq_headers::reply_head;
 use sq_outside::{Sink, Source};
 use std::alloc::Global;
 use std::sync::Wait;

@@ -5,10 +5,10 @@ use Rattle.sq_base.specs.Addresses.{Address}
 use Rattle.sq_base.specs.Requests.{HttpRequest}
 use Rattle.sq_base.specs.declared.plans.BodyPlan.{BodyPlan}
 use Rattle.sq_eval.specs.Takings.{fact_taken}
-use Rattle.sq_head.specs.ReplyHeads.{reply_head_out_where}
-use Rattle.sq_head.specs.RequestHeads.{head_out_where}
-use Rattle.sq_head.specs.declared.replies.ReplyHead.{ReplyHead}
-use Rattle.sq_head.specs.declared.replies.Shape.{Shape}
+use Rattle.sq_message.specs.ReplyHeads.{reply_head_out_where}
+use Rattle.sq_message.specs.RequestHeads.{head_out_where}
+use Rattle.sq_message.specs.declared.replies.ReplyHead.{ReplyHead}
+use Rattle.sq_message.specs.declared.replies.Shape.{Shape}
 use Rattle.sq_rules.specs.Configurations.{Configuration}
 use Rattle.sq_rules.specs.Verdicts.{name_allowed, name_allowed_over}
 use Rattle.sq_rules.specs.declared.sights.Sight.{Sight}

@@ -9,7 +9,7 @@ use crate::allowing::{allows_name, allows_others};
 use crate::standing::end;
 use crate::table::{Standings, table_of};
 use sq_base::{Field, WantOfMemory};
-use sq_head::NameTest;
+use sq_message::NameTest;
 use sq_rules::{Config, Facts, lowered};
 use std::alloc::Global;
 

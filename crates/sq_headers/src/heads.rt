@@ -1,14 +1,14 @@
 //! Heads as they are passed on by the rules of a configuration.
 ghost use Rattle.std.specs.Prelude.{◌≡◌, length, IfOk};
-ghost use Rattle.sq_head.specs.ReplyHeads.{reply_head_out_where};
-ghost use Rattle.sq_head.specs.RequestHeads.{head_out_where};
+ghost use Rattle.sq_message.specs.ReplyHeads.{reply_head_out_where};
+ghost use Rattle.sq_message.specs.RequestHeads.{head_out_where};
 ghost use Rattle.sq_headers.specs.Access.{access_by, reply_text, request_text};
 ghost use Rattle.sq_rules.specs.Facts.{facts_of};
 ghost use Rattle.sq_rules.specs.declared.sights.Sight.{Sight};
 
 use crate::deciding::{AccessTest, decided_names};
 use sq_base::{Addr, BodyPlan, Request, Text, WantOfMemory};
-use sq_head::{ReplyHead, Shape, head_out_where, reply_head_out_where};
+use sq_message::{ReplyHead, Shape, head_out_where, reply_head_out_where};
 use sq_rules::{Config, Facts};
 use std::alloc::Global;
 

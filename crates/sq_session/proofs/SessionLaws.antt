@@ -3,9 +3,9 @@ use Rattle.std.proofs.Common.{◌≡◌, ◌⊎◌, inl, inr, ℕ, ◌≤◌, Li
 use Rattle.sq_base.specs.Addresses.{Address}
 use Rattle.sq_outside.specs.Causes.{count_limit, Rose}
 use Rattle.sq_outside.specs.Dials.{Dialled}
-use Rattle.sq_head.specs.OwnReplies.{error_text}
-use Rattle.sq_head.specs.declared.own.Own.{Own}
-use Rattle.sq_head.specs.declared.own.Own.TheVariants.{Inner, Stopped, NoMemory, TooManyConns}
+use Rattle.sq_message.specs.OwnReplies.{error_text}
+use Rattle.sq_message.specs.declared.own.Own.{Own}
+use Rattle.sq_message.specs.declared.own.Own.TheVariants.{Inner, Stopped, NoMemory, TooManyConns}
 use Rattle.sq_forward.specs.Meters.{granted_after}
 use Rattle.sq_turns.specs.Fronts.{FrontAnswer, OfOpen, OfClose}
 use Rattle.sq_turns.specs.Sessions.{answers_of, client_of, granted_of, ServesOpened, ClosesOpened, TellsWhole, TellsAs, SessionHasCause, dry_after_session, session_seen}

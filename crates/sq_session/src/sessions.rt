@@ -2,7 +2,7 @@
 ghost use Rattle.std.specs.Prelude.{◌≡◌, ◌-◌, ◌≤◌, ◌⊎◌, false};
 ghost use Rattle.sq_outside.specs.Causes.{Rose};
 ghost use Rattle.sq_outside.specs.Dials.{IsClosed};
-ghost use Rattle.sq_head.specs.OwnReplies.{error_text};
+ghost use Rattle.sq_message.specs.OwnReplies.{error_text};
 ghost use Rattle.sq_forward.specs.Halves.{to_come};
 ghost use Rattle.sq_turns.specs.Told.{ServesTold, SessionTold};
 ghost use Rattle.sq_turns.specs.Sessions.{TellsWhole, SessionHasCause, dry_after_session, session_seen};
@@ -12,7 +12,7 @@ ghost use Rattle.sq_turns.specs.Verdicts.{refusal_of};
 use crate::turning::turn;
 use sq_base::Addr;
 use sq_forward::{Duplex, Ends, Meter};
-use sq_head::Own;
+use sq_message::Own;
 use sq_outside::{Dialer, Out, Sink};
 use sq_turns::{Carried, End, Front, Opened, say};
 use std::alloc::Global;

@@ -3,7 +3,7 @@ ghost use Rattle.std.specs.Prelude.{◌≡◌, ◌≤◌, ◌⊎◌, false, Ok};
 ghost use Rattle.sq_outside.specs.Causes.{Rose};
 ghost use Rattle.sq_outside.specs.Dials.{CallsOnce};
 ghost use Rattle.sq_forward.specs.Halves.{to_come};
-ghost use Rattle.sq_head.specs.BodyPlans.{request_plan};
+ghost use Rattle.sq_message.specs.BodyPlans.{request_plan};
 ghost use Rattle.sq_turns.specs.Steps.{EndHasCause, WasTold, dry_after, turn_seen, front_seen};
 ghost use Rattle.sq_turns.specs.Told.{TurnTold, AnswersTold, ObeysTold};
 ghost use Rattle.sq_forward.specs.Exchanges.{message};

@@ -2,7 +2,7 @@
 use Rattle.std.proofs.Common.{◌≡◌, ℕ, ◌<◌, ◌≤◌, List, [], ◌++◌, length, take, drop, Bool, true, false, Option, Some, None, IfSome, refl, sym, ap, subst, ◌∙◌, arith, append_assoc, take-append-drop, length-take}
 use Rattle.std.specs.Io.KnownBytes.{Keeps, prepend_known}
 use Rattle.sq_request.specs.Endings.{head_end, IsWholeHead}
-use Rattle.sq_head.specs.ReplyHeads.{most_bytes}
+use Rattle.sq_message.specs.ReplyHeads.{most_bytes}
 use Rattle.sq_turns.specs.Begins.{Begins, LeavesRest, HeadComes, is_blank, ended_as}
 use Rattle.sq_turns.specs.Told.{BeginsTold}
 use Rattle.sq_turns.specs.declared.beginning.Begun.{Begun}

@@ -6,10 +6,10 @@ use Rattle.sq_base.specs.declared.plans.BodyPlan.{BodyPlan}
 use Rattle.sq_checks.specs.Records.{Judged}
 use Rattle.sq_outside.specs.Causes.{count_limit, Rose, TakesBack}
 use Rattle.sq_outside.specs.Dials.{Dialled}
-use Rattle.sq_head.specs.BodyPlans.{request_plan}
-use Rattle.sq_head.specs.OwnReplies.{error_text, denial}
-use Rattle.sq_head.specs.declared.own.Own.{Own}
-use Rattle.sq_head.specs.declared.own.Own.TheVariants.{NotImplemented}
+use Rattle.sq_message.specs.BodyPlans.{request_plan}
+use Rattle.sq_message.specs.OwnReplies.{error_text, denial}
+use Rattle.sq_message.specs.declared.own.Own.{Own}
+use Rattle.sq_message.specs.declared.own.Own.TheVariants.{NotImplemented}
 use Rattle.sq_turns.specs.Begins.{fits_hosts}
 use Rattle.sq_turns.specs.Carrying.{sat}
 use Rattle.sq_turns.specs.Fronts.{FrontAnswer, OfDecide, OfRewrite, OfSit, Rewrites, SitsFor, SitsBehind, takes_seat}

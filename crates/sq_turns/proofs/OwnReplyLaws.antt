@@ -3,8 +3,8 @@ use Rattle.std.proofs.Common.{◌≡◌, ◌⊎◌, inl, inr, ℕ, List, Bool, O
 use Rattle.std.specs.Io.KnownBytes.{Appends}
 use Rattle.sq_outside.proofs.Writing.{Grew_none, IsPrefix_nil}
 use Rattle.sq_outside.specs.Output.{IsPrefix, Grew}
-use Rattle.sq_head.specs.OwnReplies.{error_text}
-use Rattle.sq_head.specs.declared.own.Own.{Own}
+use Rattle.sq_message.specs.OwnReplies.{error_text}
+use Rattle.sq_message.specs.declared.own.Own.{Own}
 use Rattle.sq_turns.specs.Steps.{EndHasCause, dry_after}
 use Rattle.sq_turns.specs.Written.{WritesReply}
 use Rattle.sq_turns.specs.declared.ends.Carried.{Carried}

@@ -14,8 +14,8 @@ use Rattle.sq_turns.specs.Steps.{is_exact, WritesAs, FitsDial, WasTold, Goes, tu
 use Rattle.sq_turns.specs.Told.{ForwardsTold, ReachesTold}
 use Rattle.sq_turns.specs.Turns.{Came, is_head, is_connect, dial_to, forwarded, dialled}
 use Rattle.sq_turns.specs.declared.ends.Carried.{Carried}
-use Rattle.sq_head.specs.OwnReplies.{error_text}
-use Rattle.sq_head.specs.declared.own.Own.TheVariants.{BadGateway}
+use Rattle.sq_message.specs.OwnReplies.{error_text}
+use Rattle.sq_message.specs.declared.own.Own.TheVariants.{BadGateway}
 use Rattle.sq_turns.specs.Written.{WritesReply}
 use Rattle.sq_turns.specs.declared.ends.Carried.TheVariants.{Closes}
 use Rattle.sq_turns.proofs.GoesLaws.{fault_goes}

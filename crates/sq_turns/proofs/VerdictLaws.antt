@@ -4,11 +4,11 @@ use Rattle.sq_base.specs.Addresses.{Address}
 use Rattle.sq_base.specs.Requests.{HttpRequest}
 use Rattle.sq_base.specs.declared.plans.BodyPlan.{BodyPlan}
 use Rattle.sq_checks.specs.Records.{Judged}
-use Rattle.sq_head.specs.BodyPlans.{request_plan}
-use Rattle.sq_head.specs.OwnReplies.{error_text}
-use Rattle.sq_head.specs.declared.faults.BadBody.{BadBody}
-use Rattle.sq_head.specs.declared.own.Own.{Own}
-use Rattle.sq_head.specs.declared.own.Own.TheVariants.{BadRequest, HeadTooLarge, Inner, Stopped, NoMemory}
+use Rattle.sq_message.specs.BodyPlans.{request_plan}
+use Rattle.sq_message.specs.OwnReplies.{error_text}
+use Rattle.sq_message.specs.declared.faults.BadBody.{BadBody}
+use Rattle.sq_message.specs.declared.own.Own.{Own}
+use Rattle.sq_message.specs.declared.own.Own.TheVariants.{BadRequest, HeadTooLarge, Inner, Stopped, NoMemory}
 use Rattle.sq_turns.specs.Begins.{fits_hosts}
 use Rattle.sq_turns.specs.Fronts.{FrontAnswer, OfDecide, Decides}
 use Rattle.sq_turns.specs.Steps.{EndHasCause, dry_after, front_seen}

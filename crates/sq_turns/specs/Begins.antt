@@ -10,7 +10,7 @@ use Rattle.sq_request.specs.Endings.{head_end, IsWholeHead}
 use Rattle.sq_request.specs.Heads.{HasRequest, HasTooManyFields, HasBadTarget}
 use Rattle.sq_request.specs.Refusals.{RefusesHead}
 use Rattle.sq_request.specs.declared.faults.BadRequest.TheVariants.{BadHead}
-use Rattle.sq_head.specs.ReplyHeads.{most_bytes}
+use Rattle.sq_message.specs.ReplyHeads.{most_bytes}
 use Rattle.sq_forward.specs.Heads.{IsTooLarge}
 use Rattle.sq_turns.specs.declared.beginning.Begun.{Begun}
 use Rattle.sq_turns.specs.declared.beginning.Begun.TheVariants.{Asks, Nothing, Cut, TooLarge, Bad, Failed, WantOfMemory}

@@ -7,8 +7,8 @@ use Rattle.sq_base.specs.Addresses.{Address}
 use Rattle.sq_base.specs.Requests.{HttpRequest}
 use Rattle.sq_outside.specs.Dials.{Dial, Dialled}
 use Rattle.sq_outside.specs.Output.{IsPrefix}
-use Rattle.sq_head.specs.OwnReplies.{error_text}
-use Rattle.sq_head.specs.declared.own.Own.TheVariants.{Inner, Stopped, NoMemory, TooManyConns}
+use Rattle.sq_message.specs.OwnReplies.{error_text}
+use Rattle.sq_message.specs.declared.own.Own.TheVariants.{Inner, Stopped, NoMemory, TooManyConns}
 use Rattle.sq_forward.specs.Meters.{granted_after, dry_limit}
 use Rattle.sq_turns.specs.Begins.{Begins}
 use Rattle.sq_turns.specs.Carrying.{sat}

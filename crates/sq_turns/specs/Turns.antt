@@ -8,14 +8,14 @@ use Rattle.sq_base.specs.Requests.{HttpRequest}
 use Rattle.sq_base.specs.declared.plans.BodyPlan.{BodyPlan}
 use Rattle.sq_checks.specs.Records.{Judged}
 use Rattle.sq_outside.specs.Dials.{Dial}
-use Rattle.sq_head.specs.BodyPlans.{request_plan}
-use Rattle.sq_head.specs.OwnReplies.{error_text, denial, redirect_text}
-use Rattle.sq_head.specs.RequestHeads.{crlf}
-use Rattle.sq_head.specs.Wishes.{wants_close, has_body}
-use Rattle.sq_head.specs.declared.faults.BadBody as body
-use Rattle.sq_head.specs.declared.faults.BadBody.TheVariants.{BothLengths, BadLength, BadCoding}
-use Rattle.sq_head.specs.declared.own.Own.{Own}
-use Rattle.sq_head.specs.declared.own.Own.TheVariants.{BadRequest, HeadTooLarge, Inner, Stopped, NoMemory, NotImplemented, BadGateway}
+use Rattle.sq_message.specs.BodyPlans.{request_plan}
+use Rattle.sq_message.specs.OwnReplies.{error_text, denial, redirect_text}
+use Rattle.sq_message.specs.RequestHeads.{crlf}
+use Rattle.sq_message.specs.Wishes.{wants_close, has_body}
+use Rattle.sq_message.specs.declared.faults.BadBody as body
+use Rattle.sq_message.specs.declared.faults.BadBody.TheVariants.{BothLengths, BadLength, BadCoding}
+use Rattle.sq_message.specs.declared.own.Own.{Own}
+use Rattle.sq_message.specs.declared.own.Own.TheVariants.{BadRequest, HeadTooLarge, Inner, Stopped, NoMemory, NotImplemented, BadGateway}
 use Rattle.sq_headers.specs.Access.{HeaderAccess, header_access}
 use Rattle.sq_forward.specs.Exchanges.{Exchange, Message, exchange, message}
 use Rattle.sq_forward.specs.Replies.{Reading}

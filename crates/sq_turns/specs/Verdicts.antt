@@ -6,10 +6,10 @@ use Rattle.sq_base.specs.Addresses.{Address}
 use Rattle.sq_base.specs.Requests.{HttpRequest}
 use Rattle.sq_base.specs.declared.plans.BodyPlan.{BodyPlan}
 use Rattle.sq_checks.specs.Records.{Judged}
-use Rattle.sq_head.specs.BodyPlans.{request_plan}
-use Rattle.sq_head.specs.declared.faults.BadBody.{BadBody}
-use Rattle.sq_head.specs.declared.own.Own.{Own}
-use Rattle.sq_head.specs.declared.own.Own.TheVariants.{BadRequest, HeadTooLarge, Inner, Stopped, NoMemory, TooManyConns}
+use Rattle.sq_message.specs.BodyPlans.{request_plan}
+use Rattle.sq_message.specs.declared.faults.BadBody.{BadBody}
+use Rattle.sq_message.specs.declared.own.Own.{Own}
+use Rattle.sq_message.specs.declared.own.Own.TheVariants.{BadRequest, HeadTooLarge, Inner, Stopped, NoMemory, TooManyConns}
 use Rattle.sq_turns.specs.Begins.{fits_hosts}
 use Rattle.sq_turns.specs.Fronts.{FrontAnswer, OfDecide}
 use Rattle.sq_turns.specs.Sessions.{JudgesOf}

@@ -1,6 +1,6 @@
 //! What a client's input begins with.
 ghost use Rattle.std.specs.Prelude.{◌≡◌, ◌≤◌, ◌+◌, length, max, count_by};
-ghost use Rattle.sq_head.specs.ReplyHeads.{most_bytes};
+ghost use Rattle.sq_message.specs.ReplyHeads.{most_bytes};
 ghost use Rattle.sq_outside.specs.Causes.{Rose};
 ghost use Rattle.sq_forward.specs.Halves.{to_come, read_limit};
 ghost use Rattle.sq_turns.specs.Told.{BeginsTold};
@@ -11,7 +11,7 @@ use crate::ends::{Carried, End};
 use http_header::HOST;
 use sq_base::{Field, Request};
 use sq_forward::{Half, HeadFound, find_head};
-use sq_head::Own;
+use sq_message::Own;
 use sq_outside::Source;
 use sq_request::{BadRequest, read_request};
 use std::alloc::Global;

@@ -1,6 +1,6 @@
 //! What follows an allowed verdict.
 ghost use Rattle.std.specs.Prelude.{◌≡◌, ◌≤◌, ◌⊎◌, true, false, Ok};
-ghost use Rattle.sq_head.specs.BodyPlans.{request_plan};
+ghost use Rattle.sq_message.specs.BodyPlans.{request_plan};
 ghost use Rattle.sq_outside.specs.Causes.{Rose};
 ghost use Rattle.sq_outside.specs.Dials.{CallsMore, CallsOnce};
 ghost use Rattle.sq_forward.specs.Halves.{to_come};
@@ -17,7 +17,7 @@ use crate::judged::JudgedRequest;
 use crate::own_replies::{is_connect, is_head, is_served, say};
 use sq_base::Request;
 use sq_forward::{Duplex, Ends, Half, Meter};
-use sq_head::Own;
+use sq_message::Own;
 use sq_outside::{Dialer, LinkUse};
 use std::alloc::Global;
 use std::sync::Wait;

@@ -13,7 +13,7 @@ use crate::ends::{Carried, End};
 use crate::judged::JudgedRequest;
 use crate::own_replies::{is_connect, is_head, say};
 use sq_forward::{Duplex, Ends, Exchanged, Meter, Outgoing, Tunnelled, exchange, tunnel};
-use sq_head::Own;
+use sq_message::Own;
 use sq_outside::{Failed, write_all};
 use std::alloc::Global;
 use std::sync::Wait;

@@ -1,8 +1,8 @@
 //! Replies of the proxy's own, and what decides which.
 ghost use Rattle.std.specs.Prelude.{◌≡◌, ◌≤◌, ◌⊎◌, true, false};
 ghost use Rattle.sq_outside.specs.Causes.{Rose};
-ghost use Rattle.sq_head.specs.OwnReplies.{error_text, denial, redirect_text};
-ghost use Rattle.sq_head.specs.Wishes.{has_body};
+ghost use Rattle.sq_message.specs.OwnReplies.{error_text, denial, redirect_text};
+ghost use Rattle.sq_message.specs.Wishes.{has_body};
 ghost use Rattle.sq_rewrite.specs.Rewritings.{is_redirect_code};
 ghost use Rattle.sq_turns.specs.Steps.{EndHasCause, dry_after};
 ghost use Rattle.sq_turns.specs.Written.{WritesReply};
@@ -11,7 +11,7 @@ ghost use Rattle.sq_turns.specs.declared.ends.Carried.TheVariants.{Stays, Closes
 
 use crate::ends::{Carried, End};
 use sq_base::{BodyPlan, Request};
-use sq_head::{BadBody, Own, denial, error_text, redirect_text, wants_close};
+use sq_message::{BadBody, Own, denial, error_text, redirect_text, wants_close};
 use sq_outside::{Failed, Sink, write_all};
 use sq_rules::Outcome;
 use std::alloc::Global;

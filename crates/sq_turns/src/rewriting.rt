@@ -3,7 +3,7 @@ ghost use Rattle.std.specs.Prelude.{◌≡◌, ◌≤◌, ◌⊎◌, true, false
 ghost use Rattle.sq_outside.specs.Causes.{Rose};
 ghost use Rattle.sq_outside.specs.Dials.{CallsOnce};
 ghost use Rattle.sq_forward.specs.Halves.{to_come};
-ghost use Rattle.sq_head.specs.BodyPlans.{request_plan};
+ghost use Rattle.sq_message.specs.BodyPlans.{request_plan};
 ghost use Rattle.sq_turns.specs.Steps.{EndHasCause, WasTold, dry_after, turn_seen, front_seen};
 ghost use Rattle.sq_turns.specs.Told.{ObeysTold};
 ghost use Rattle.sq_forward.specs.Exchanges.{message};
@@ -14,7 +14,7 @@ use crate::front::{Front, Rewritten};
 use crate::judged::JudgedRequest;
 use crate::own_replies::{is_connect, is_head, say, send_elsewhere};
 use sq_forward::{Duplex, Ends, Meter};
-use sq_head::Own;
+use sq_message::Own;
 use sq_outside::Dialer;
 use std::alloc::Global;
 use std::sync::Wait;

@@ -9,7 +9,7 @@ use crate::own_replies::body_own;
 use sq_base::{BodyPlan, Request};
 use sq_checks::Record;
 use sq_forward::Meter;
-use sq_head::{Own, request_plan};
+use sq_message::{Own, request_plan};
 use std::alloc::Global;
 
 /// Asks about a request whose body can be read: the record of its check, and its body's plan; or the reply that

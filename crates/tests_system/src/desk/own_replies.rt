@@ -1,6 +1,6 @@
 //! Those replies of the proxy's own that no run of the program comes to, byte by byte. The others stand in
 //! `tests/corpus`.
-use sq_head::{Own, error_text};
+use sq_message::{Own, error_text};
 use std::alloc::Global;
 use std::process::Abort;
 

@@ -1,5 +1,5 @@
 use Rattle.std.proofs.Common.{◌≡◌, Err, IsErrOf, ap, sym, subst}
-use Rattle.sq_body.specs.declared.faults.FeedFault.TheVariants as fault
+use Rattle.sq_message.specs.declared.feed_faults.FeedFault.TheVariants as fault
 use Rattle.sq_forward.proofs.CopyLaws.{piece_fed, piece_part, unfed_no_sink, unfed_starved, unfed_no_memory, unfed_bad}
 use Rattle.sq_forward.proofs.PayLaws.{pays_whole}
 use Rattle.sq_forward.proofs.copying.write_framed.Goals as goal

@@ -1,6 +1,6 @@
 use Rattle.std.proofs.Common.{◌≡◌, ◌≤◌, ◌+◌, length, max, take}
 use Rattle.std.specs.Io.KnownBytes.{Keeps, prepend_known}
-use Rattle.sq_head.specs.ReplyHeads.{most_bytes}
+use Rattle.sq_message.specs.ReplyHeads.{most_bytes}
 use Rattle.sq_forward.specs.Halves.{read_limit}
 use Rattle.sq_forward.specs.Searching.{IsSought}
 use Rattle.sq_forward.proofs.heads.find_head.Given as goal

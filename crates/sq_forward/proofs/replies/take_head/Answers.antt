@@ -1,9 +1,9 @@
 use Rattle.std.proofs.Common.{◌≡◌, take, subst, ap, ◌∙◌}
 use Rattle.std.specs.Io.KnownBytes.{prepend_known}
 use Rattle.sq_request.specs.Endings.{head_end}
-use Rattle.sq_head.specs.ReplyHeads.{HasReply, RefusesReply}
-use Rattle.sq_head.specs.declared.faults.ReplyHeadFault.TheVariants as fault
-use Rattle.sq_head.specs.declared.replies.ReplyHead.{ReplyHead}
+use Rattle.sq_message.specs.ReplyHeads.{HasReply, RefusesReply}
+use Rattle.sq_message.specs.declared.faults.ReplyHeadFault.TheVariants as fault
+use Rattle.sq_message.specs.declared.replies.ReplyHead.{ReplyHead}
 use Rattle.sq_forward.proofs.CopyLaws.{passed}
 use Rattle.sq_forward.specs.Heads.{IsTooLarge}
 use Rattle.sq_forward.proofs.HeadLaws.{missing_by, missing_large, missing_end, missing_ahead, taken_head}

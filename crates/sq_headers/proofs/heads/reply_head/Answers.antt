@@ -1,5 +1,5 @@
 use Rattle.std.proofs.Common.{◌≡◌, IfOk, true, subst}
-use Rattle.sq_head.specs.ReplyHeads.{reply_head_out_where}
+use Rattle.sq_message.specs.ReplyHeads.{reply_head_out_where}
 use Rattle.sq_headers.proofs.AccessLaws.{tests_at}
 use Rattle.sq_headers.proofs.heads.reply_head.Goals as goal
 

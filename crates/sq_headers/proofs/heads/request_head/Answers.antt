@@ -1,5 +1,5 @@
 use Rattle.std.proofs.Common.{◌≡◌, IfOk, false, subst}
-use Rattle.sq_head.specs.RequestHeads.{head_out_where}
+use Rattle.sq_message.specs.RequestHeads.{head_out_where}
 use Rattle.sq_headers.proofs.AccessLaws.{tests_at}
 use Rattle.sq_headers.proofs.heads.request_head.Goals as goal
 

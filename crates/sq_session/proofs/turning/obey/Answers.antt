@@ -1,6 +1,6 @@
 use Rattle.std.proofs.Common.{refl, sym, ap, ◌∙◌, inl}
 use Rattle.sq_rules.specs.declared.outcomes.Outcome.{Outcome}
-use Rattle.sq_head.specs.OwnReplies.{denial}
+use Rattle.sq_message.specs.OwnReplies.{denial}
 use Rattle.sq_turns.proofs.CarryLaws.{obeys_denied, cause_client}
 use Rattle.sq_turns.proofs.GoesLaws.{was_told}
 use Rattle.sq_turns.proofs.OwnReplyLaws.{tells_same}

@@ -1,5 +1,5 @@
 use Rattle.std.proofs.Common.{List, [], ◌∷◌, ◌++◌, Err, refl, sym, subst, ◌∙◌, inl, inr}
-use Rattle.sq_head.specs.declared.own.Own.TheVariants.{NotImplemented, Inner, NoMemory}
+use Rattle.sq_message.specs.declared.own.Own.TheVariants.{NotImplemented, Inner, NoMemory}
 use Rattle.sq_turns.specs.Fronts.{FrontAnswer, OfSit}
 use Rattle.sq_turns.specs.declared.front.SitFault.TheVariants as sit
 use Rattle.sq_turns.proofs.CarryLaws.{carries_unserved, carries_unseated, carries_seated, cause_client}

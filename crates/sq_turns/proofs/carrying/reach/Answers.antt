@@ -1,7 +1,7 @@
 use Rattle.std.proofs.Common.{ap}
 use Rattle.std.specs.Io.KnownBytes.{prepend_known}
 use Rattle.sq_base.specs.Requests.{HttpRequest}
-use Rattle.sq_head.specs.declared.own.Own.TheVariants.{BadGateway}
+use Rattle.sq_message.specs.declared.own.Own.TheVariants.{BadGateway}
 use Rattle.sq_turns.specs.Turns.{access_of}
 use Rattle.sq_turns.proofs.CarryLaws.{cause_client, cause_reached, reached_rose}
 use Rattle.sq_turns.proofs.PartLaws.{unreached_told, reaches, reaches_as, dialled_told, refused_told, calls_after}

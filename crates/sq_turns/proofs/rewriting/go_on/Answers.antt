@@ -1,7 +1,7 @@
 use Rattle.std.proofs.Common.{refl, sym, ap, ◌∙◌, inl}
 use Rattle.sq_base.specs.Requests.{HttpRequest}
-use Rattle.sq_head.specs.OwnReplies.{redirect_text}
-use Rattle.sq_head.specs.declared.own.Own.TheVariants.{NoMemory}
+use Rattle.sq_message.specs.OwnReplies.{redirect_text}
+use Rattle.sq_message.specs.declared.own.Own.TheVariants.{NoMemory}
 use Rattle.sq_turns.specs.declared.ends.Carried.TheVariants.{Closes}
 use Rattle.sq_turns.specs.declared.front.Rewritten.TheVariants as rewritten
 use Rattle.sq_turns.proofs.CarryLaws.{obeys_tunnel, obeys_sent, obeys_told, cause_client}

@@ -1,9 +1,0 @@
-use Rattle.std.proofs.Common.{◌≡◌, ◌++◌, map}
-use Rattle.sq_head.specs.Values.{elements_left}
-use Rattle.sq_head.proofs.elements.put_elements.Given as goal
-
--- what was put and what is to come is the whole
-abbrev pub invariant-loop-element : goal.invariant-loop-element
-invariant-loop-element l =
-    map (λ o. o.now) l.to.items ++ elements_left l.element-iterator ≡ map (λ o. o.now) l.initial.to.items
-    ++ elements_left l.initial.element-iterator

@@ -1,0 +1,15 @@
+pub mod Bodies
+pub mod BodyPlans
+pub mod ChunkLines
+pub mod Cursors
+pub mod Feeding
+pub mod FieldNames
+pub mod LineReads
+pub mod Marks
+pub mod OwnReplies
+pub mod ReplyHeads
+pub mod RequestHeads
+pub mod Spans
+pub mod Statuses
+pub mod Values
+pub mod Wishes
