@@ -6,7 +6,8 @@
 //! those for the proxy (Host, Proxy-Authorization, Expect) are left out, the rest is as it came.
 //! `head_out_where` and `reply_head_out_where` leave out the lines besides whose names do not pass a test.
 //! `read_reply_head` reads a whole head of a reply. `request_plan` and `reply_plan` say how the end of
-//! a body is found, and refuse what two recipients could read differently; they take no memory. `denial`,
+//! a body is found, and refuse what two recipients could read differently; they take no memory.
+//! `wants_close` and `wants_continue` say what a request wishes of its connection and of its body. `denial`,
 //! `redirect_text` and `error_text` are the replies of the proxy's own. Each answer is that of its definition.
 //!
 //! `BodyCursor` goes on with a body by length, in chunks, or up to the close. It is fed the bytes of a message behind its
