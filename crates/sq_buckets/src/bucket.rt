@@ -9,7 +9,7 @@ use std::marker::Model;
 
 /// The numbers of a bucket, in bytes. What it was opened at and what it gained is what it holds, what it
 /// granted, and what it lost over its brim.
-#[derive(Clone, Copy, PartialEq, Eq)]
+#[derive(Clone, Copy)]
 pub struct Bucket {
     pub level: u64,
     pub opened: u128,

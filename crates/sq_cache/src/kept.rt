@@ -16,7 +16,7 @@ use std::num::NonZeroUsize;
 
 /// A verdict that was taken: the answer, the moment of its reply, the question that it answers, and
 /// whether its refresh is due, which the caller then asks for.
-#[derive(Drop, PartialEq, Eq)]
+#[derive(Drop)]
 pub struct Taken {
     pub what: What,
     pub date: Moment,

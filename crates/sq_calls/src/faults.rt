@@ -6,7 +6,7 @@ use sq_machine::Refusal;
 use thiserror::Error;
 
 /// Why a call of a desk was not made, or not noted.
-#[derive(Clone, Copy, Debug, PartialEq, Eq, Error)]
+#[derive(Clone, Copy, Debug, Error)]
 pub enum DeskFault {
     /// A note failed before, and the desk is stopped.
     #[error("the journal failed before")]

@@ -5,7 +5,7 @@ ghost use Rattle.sq_checks.specs.GivenValues.{needed_by};
 use sq_base::Cause;
 
 /// The value of an external acl, as a helper's answer gives it: OK is a match, ERR is none.
-#[derive(Clone, Copy, PartialEq, Eq)]
+#[derive(Clone, Copy)]
 pub enum Given {
     Hit,
     Miss,
@@ -13,7 +13,7 @@ pub enum Given {
 }
 
 /// Where a verdict was reached.
-#[derive(Clone, Copy, Debug, PartialEq, Eq)]
+#[derive(Clone, Copy, Debug)]
 pub enum Place {
     /// The rule of this number, from 1, matched.
     Rule(u32),
@@ -26,7 +26,7 @@ pub enum Place {
 }
 
 /// What a run came to.
-#[derive(Clone, Copy, Debug, PartialEq, Eq)]
+#[derive(Clone, Copy, Debug)]
 pub enum Ran {
     /// The rules decide.
     Verdict { allow: bool, place: Place },

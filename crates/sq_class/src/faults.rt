@@ -4,7 +4,7 @@ use std::fmt;
 use thiserror::Error;
 
 /// Why a step was not made.
-#[derive(Clone, Copy, PartialEq, Eq, Debug, Error)]
+#[derive(Clone, Copy, Debug, Error)]
 pub enum ResolveFault {
     /// A question is to be put, and no number is left for it.
     #[error("no number is left for a question")]

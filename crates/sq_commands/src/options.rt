@@ -11,7 +11,7 @@ use std::marker::Model;
 const WORKER_LIMIT: u64 = 65;
 
 /// How many workers serve connections, from 1 to 64.
-#[derive(Clone, Copy, PartialEq, Eq)]
+#[derive(Clone, Copy)]
 pub struct Workers(pub u32);
 
 impl Model for Workers {
@@ -27,7 +27,7 @@ impl Model for Workers {
 }
 
 /// What the options of `serve` state.
-#[derive(Clone, Copy, PartialEq, Eq)]
+#[derive(Clone, Copy)]
 pub struct Options {
     /// The port at which the server listens, above 0.
     pub port: Option<u16>,

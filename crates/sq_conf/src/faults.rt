@@ -4,7 +4,7 @@ use sq_rules::{ConfError, Kind};
 use thiserror::Error;
 
 /// Why a line was not read: its first fault, or want of memory.
-#[derive(Clone, Copy, Debug, PartialEq, Eq)]
+#[derive(Clone, Copy, Debug)]
 pub enum ReadFault {
     Memory,
     Fault(Kind),
@@ -22,7 +22,7 @@ impl From<WantOfMemory> for ReadFault {
 }
 
 /// Why a text is no configuration.
-#[derive(Clone, Copy, PartialEq, Eq, Debug, Error)]
+#[derive(Clone, Copy, Debug, Error)]
 pub enum ConfFault {
     /// Its first fault.
     #[error("{0}")]

@@ -3,7 +3,7 @@ use sq_base::{LineFault, WantOfMemory};
 use thiserror::Error;
 
 /// The first faulty line, by the number of its first part, or want of memory.
-#[derive(Clone, Copy, PartialEq, Eq, Debug, Error)]
+#[derive(Clone, Copy, Debug, Error)]
 pub enum LexFault {
     #[error("line {0} is too long")]
     LineTooLong(u32),

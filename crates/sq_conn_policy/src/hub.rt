@@ -20,7 +20,7 @@ use std::sync::Arc;
 use thiserror::Error;
 
 /// Why a call of a hub was not made.
-#[derive(Clone, Copy, Debug, PartialEq, Eq, Error)]
+#[derive(Clone, Copy, Debug, Error)]
 pub enum HubFault {
     /// The engine refuses it.
     #[error("{0}")]

@@ -11,7 +11,7 @@ use std::sync::Wait;
 const KEPT: usize = 12;
 
 /// What a line orders.
-#[derive(Clone, Copy, PartialEq, Eq)]
+#[derive(Clone, Copy)]
 pub enum Order {
     /// `reconfigure`: the configuration is read again.
     Reconfigure,

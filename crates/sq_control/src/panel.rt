@@ -12,7 +12,7 @@ use std::sync::ledger::Share;
 use std::sync::{Mutex, Wait};
 
 /// Why a panel came to its end.
-#[derive(Clone, Copy, PartialEq, Eq)]
+#[derive(Clone, Copy)]
 pub enum PanelEnd {
     /// It was ordered to end, or no order comes any more.
     Ended,

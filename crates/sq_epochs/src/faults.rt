@@ -4,7 +4,7 @@ use std::fmt;
 use thiserror::Error;
 
 /// Why a process was not noted as started.
-#[derive(Clone, Copy, PartialEq, Eq, Debug, Error)]
+#[derive(Clone, Copy, Debug, Error)]
 pub enum StartedFault {
     #[error("no start is open")]
     NoStartOpen,

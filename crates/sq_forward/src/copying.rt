@@ -17,7 +17,7 @@ use std::mem;
 use std::sync::Wait;
 
 /// How the copying of a body ended.
-#[derive(Clone, Copy, PartialEq, Eq)]
+#[derive(Clone, Copy)]
 pub(crate) enum Copied {
     /// The body is complete, and all of it was written.
     Whole,

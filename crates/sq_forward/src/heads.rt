@@ -15,7 +15,7 @@ use std::sync::Wait;
 const MOST_BYTES: usize = 65_536;
 
 /// What was found at the front of what comes.
-#[derive(Clone, Copy, PartialEq, Eq)]
+#[derive(Clone, Copy)]
 pub enum HeadFound {
     /// A whole head of so many bytes stands ahead.
     Whole(usize),

@@ -13,7 +13,7 @@ const PIECE: usize = 16_384;
 const DRY_LIMIT: u32 = 3_600;
 
 /// Why bytes were not written.
-#[derive(Clone, Copy, PartialEq, Eq)]
+#[derive(Clone, Copy)]
 pub(crate) enum Unpaid {
     /// The sink failed.
     Failed,

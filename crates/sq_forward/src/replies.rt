@@ -30,7 +30,7 @@ use std::sync::Wait;
 const INTERIM_LIMIT: usize = 16;
 
 /// Why no head was taken.
-#[derive(Clone, Copy, PartialEq, Eq)]
+#[derive(Clone, Copy)]
 pub(crate) enum NoHead {
     /// The bytes begin with no head of a reply.
     Missing,

@@ -5,7 +5,7 @@ ghost use Rattle.sq_forward.specs.Searching.{IsSought, SoughtAll, ends_by, begun
 ghost use Rattle.sq_forward.specs.declared.searching.LinePart.TheVariants.{Nothing};
 
 /// What came of a line that has not ended.
-#[derive(Clone, Copy, PartialEq, Eq)]
+#[derive(Clone, Copy)]
 pub(crate) enum LinePart {
     Nothing,
     /// One CR alone.

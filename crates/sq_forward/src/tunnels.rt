@@ -14,7 +14,7 @@ use std::sync::Wait;
 use std::thread::{Threads, join_mut};
 
 /// How a tunnel ended.
-#[derive(Clone, Copy, PartialEq, Eq)]
+#[derive(Clone, Copy)]
 pub enum Tunnelled {
     /// Both ways were read to their ends, and all of them was written.
     Ended,

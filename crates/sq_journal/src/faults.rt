@@ -3,7 +3,7 @@ use sq_base::WantOfMemory;
 use thiserror::Error;
 
 /// No entry, or no event, has this text; or memory ran out.
-#[derive(Clone, Copy, PartialEq, Eq, Debug, Error)]
+#[derive(Clone, Copy, Debug, Error)]
 pub enum EntryFault {
     #[error("no entry")]
     BadEntry,

@@ -8,7 +8,7 @@ ghost use Rattle.sq_outside.specs.Causes.{Rose};
 use sq_base::{ProcNo, Text};
 
 /// What the desk said of a line.
-#[derive(Clone, Copy, PartialEq, Eq)]
+#[derive(Clone, Copy)]
 pub enum LineEnd {
     /// The line was taken.
     Go,
@@ -19,7 +19,7 @@ pub enum LineEnd {
 }
 
 /// What a desk was handed, and where it wanted no more.
-#[derive(Drop, PartialEq, Eq)]
+#[derive(Drop)]
 pub enum Handed {
     /// A line of this process.
     Line(ProcNo, Text),

@@ -18,7 +18,7 @@ use std::sync::Wait;
 const CHUNK: usize = 4096;
 
 /// How the reading of lines ended.
-#[derive(Clone, Copy, PartialEq, Eq)]
+#[derive(Clone, Copy)]
 pub enum KeeperEnd {
     /// The input ended, and the desk learned that the process died.
     Ended,

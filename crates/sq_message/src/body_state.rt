@@ -2,7 +2,7 @@
 use sq_base::Text;
 
 /// Where trailers stand: at the beginning of a line, behind a CR there, inside a line, behind a CR there.
-#[derive(Clone, Copy, PartialEq, Eq)]
+#[derive(Clone, Copy)]
 pub enum Mark {
     Begin,
     BeginCr,

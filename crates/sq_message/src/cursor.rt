@@ -13,7 +13,7 @@ use std::marker::Model;
 use std::mem;
 
 /// What was taken of an input.
-#[derive(Clone, Copy, PartialEq, Eq)]
+#[derive(Clone, Copy)]
 pub struct Fed {
     /// How many bytes at its front belong to the body.
     pub used: usize,

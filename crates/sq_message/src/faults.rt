@@ -3,7 +3,7 @@ use sq_base::WantOfMemory;
 use thiserror::Error;
 
 /// Why there is no plan of a message's body. The first of these that holds is answered.
-#[derive(Clone, Copy, PartialEq, Eq, Debug, Error)]
+#[derive(Clone, Copy, Debug, Error)]
 pub enum BadBody {
     #[error("both Transfer-Encoding and Content-Length stand")]
     BothLengths,
@@ -14,7 +14,7 @@ pub enum BadBody {
 }
 
 /// Why there is no head of a reply. Want of memory may come at any time.
-#[derive(Clone, Copy, PartialEq, Eq, Debug, Error)]
+#[derive(Clone, Copy, Debug, Error)]
 pub enum ReplyHeadFault {
     #[error("the head is no head of a reply")]
     BadHead,

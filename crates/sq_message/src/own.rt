@@ -12,7 +12,7 @@ use sq_rules::Outcome;
 use std::alloc::Global;
 
 /// A reply of the proxy's own, other than a denial.
-#[derive(Clone, Copy, Debug, PartialEq, Eq)]
+#[derive(Clone, Copy, Debug)]
 pub enum Own {
     /// 400: the head, its target, its Host fields or the length of its body are refused.
     BadRequest,

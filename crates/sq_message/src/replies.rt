@@ -2,7 +2,7 @@
 use sq_base::{Fields, Text};
 
 /// The head of a reply: the 1 of HTTP/1.1, a status from 0 to 999, a phrase that may be empty, and the fields.
-#[derive(Drop, PartialEq, Eq)]
+#[derive(Drop)]
 pub struct ReplyHead {
     pub minor: u8,
     pub status: u16,
@@ -12,7 +12,7 @@ pub struct ReplyHead {
 
 /// What a reply's head says of what follows: whether its body comes in chunks, and whether the connection
 /// closes behind it.
-#[derive(Clone, Copy, PartialEq, Eq)]
+#[derive(Clone, Copy)]
 pub struct Shape {
     pub chunked: bool,
     pub closes: bool,

@@ -23,7 +23,7 @@ use std::sync::Arc;
 use thiserror::Error;
 
 /// Why no seat was given.
-#[derive(Clone, Copy, PartialEq, Eq, Debug, Error)]
+#[derive(Clone, Copy, Debug, Error)]
 pub enum ChooseFault {
     #[error("the numbers of seats are used up")]
     Spent,

@@ -9,7 +9,7 @@ use sq_rules::{Outcome, Why};
 use std::alloc::Global;
 
 /// How many checks began, how many outcomes allowed, denied without a fault, and denied by one, and how many questions were sent.
-#[derive(Clone, Copy, PartialEq, Eq, Drop)]
+#[derive(Clone, Copy, Drop)]
 pub struct Summary {
     pub asks: u64,
     pub allowed: u64,

@@ -31,7 +31,7 @@ use std::alloc::Global;
 const CHUNK: usize = 65_536;
 
 /// What the first line of a script states.
-#[derive(Clone, Copy, PartialEq, Eq)]
+#[derive(Clone, Copy)]
 pub enum FirstEvent {
     /// Where the machine begins.
     Begin { offset: Offset },

@@ -10,7 +10,7 @@ use sq_outside::{Failed, Sink, write_all};
 const PAGE: usize = 65_536;
 
 /// Why a line was not put on a page, or the page not written.
-#[derive(Clone, Copy, PartialEq, Eq)]
+#[derive(Clone, Copy)]
 pub enum Unwritten {
     Failed,
     WantOfMemory,

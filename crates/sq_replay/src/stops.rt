@@ -5,7 +5,7 @@ ghost use Rattle.sq_replay.specs.Making.{stop_for};
 use sq_machine::Refusal;
 
 /// Why an event was not made.
-#[derive(Clone, Copy, PartialEq, Eq)]
+#[derive(Clone, Copy)]
 pub enum Stop {
     /// It is refused, or stands where it may not.
     Refused,

@@ -4,7 +4,7 @@ use std::fmt;
 use thiserror::Error;
 
 /// Why a rewriter refuses a call. A refused call changes nothing.
-#[derive(Clone, Copy, PartialEq, Eq, Debug, Error)]
+#[derive(Clone, Copy, Debug, Error)]
 pub enum RewriteFault {
     /// As many questions wait as may.
     #[error("the queue is full")]

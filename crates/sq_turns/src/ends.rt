@@ -20,7 +20,7 @@ pub enum End {
 }
 
 /// How a turn ended.
-#[derive(Clone, Copy, PartialEq, Eq)]
+#[derive(Clone, Copy)]
 pub enum Carried {
     /// The reply is complete, and the connection stays.
     Stays,

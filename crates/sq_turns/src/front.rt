@@ -11,7 +11,7 @@ use std::alloc::Global;
 use thiserror::Error;
 
 /// What the opening of a connection comes to.
-#[derive(Clone, Copy, PartialEq, Eq)]
+#[derive(Clone, Copy)]
 pub enum Opened {
     /// It is open.
     In,
@@ -54,7 +54,7 @@ pub enum Rewritten {
 }
 
 /// Why no seat was taken.
-#[derive(Clone, Copy, Debug, PartialEq, Eq, Error)]
+#[derive(Clone, Copy, Debug, Error)]
 pub enum SitFault {
     /// The numbers of seats are used up.
     #[error("the numbers of seats are used up")]
@@ -65,7 +65,7 @@ pub enum SitFault {
 }
 
 /// Why a connection was not closed.
-#[derive(Clone, Copy, Debug, PartialEq, Eq, Error)]
+#[derive(Clone, Copy, Debug, Error)]
 pub enum CloseFault {
     /// It is refused.
     #[error("{0}")]
@@ -80,7 +80,7 @@ pub enum CloseFault {
 
 /// How many questions were asked, and how many bytes were granted on seats. Each stays at 2^63 - 1 once it
 /// is there.
-#[derive(Clone, Copy, PartialEq, Eq)]
+#[derive(Clone, Copy)]
 pub struct Counts {
     pub asked: u64,
     pub granted: u64,

@@ -17,7 +17,7 @@ use std::alloc::Global;
 const SIZE_LIMIT: usize = 10 << 20;
 
 /// Why the patterns of an acl were not compiled.
-#[derive(Clone, Copy, PartialEq, Eq)]
+#[derive(Clone, Copy)]
 pub enum ListFault {
     /// The pattern at this place, from 0, is none.
     BadPattern(usize),

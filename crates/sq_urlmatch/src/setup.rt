@@ -16,7 +16,7 @@ use std::sync::Arc;
 use thiserror::Error;
 
 /// Why a configuration was not set up.
-#[derive(Clone, Copy, PartialEq, Eq, Debug, Error)]
+#[derive(Clone, Copy, Debug, Error)]
 pub enum SetupFault {
     /// Of the acl at this place, the pattern at this place is none; both count from 0.
     #[error("of acl {0}, pattern {1} is none, both counted from 0")]

@@ -9,7 +9,7 @@ use sq_rules::Find;
 use std::alloc::Global;
 
 /// Why a pattern was not read.
-#[derive(Clone, Copy, PartialEq, Eq)]
+#[derive(Clone, Copy)]
 pub enum TreeFault {
     /// The grammar does not read it, or its parts nest too deep.
     BadPattern,

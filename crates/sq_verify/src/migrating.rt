@@ -25,7 +25,7 @@ use thiserror::Error;
 const CHUNK: usize = 65_536;
 
 /// Why a journal was not migrated to its end.
-#[derive(Clone, Copy, PartialEq, Eq, Debug, Error)]
+#[derive(Clone, Copy, Debug, Error)]
 pub enum MigrateFault {
     /// The line with this number, from 1, is no entry in its place, has no LF, or is over a limit.
     #[error("line {0} is no entry in its place")]

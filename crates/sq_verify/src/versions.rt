@@ -5,7 +5,7 @@ ghost use Rattle.sq_verify.specs.JournalLines.{line_limit};
 use sq_outside::LINE_LIMIT;
 
 /// The version of a journal: what stands before the text of an entry in its line.
-#[derive(Clone, Copy, PartialEq, Eq)]
+#[derive(Clone, Copy)]
 pub enum Version {
     /// Nothing.
     One,
