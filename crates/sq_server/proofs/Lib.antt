@@ -1,5 +1,3 @@
 mod BeginLaws
-mod ServiceLaws
 mod SetupLaws
 mod ThreadLaws
-mod TrueLaws

@@ -1,7 +1,7 @@
 use Rattle.std.proofs.Common.{sym, ap, ◌∙◌}
 use Rattle.sq_control.specs.Attending.{FilesSeen, Streams}
-use Rattle.sq_server.proofs.ServiceLaws.{begun_fault, failed_is, served, stopped_is, unbegun_later, unserved_moved}
-use Rattle.sq_server.proofs.held.run_panel.Goals as goal
+use Rattle.sq_service.proofs.ServiceLaws.{begun_fault, failed_is, served, stopped_is, unbegun_later, unserved_moved}
+use Rattle.sq_service.proofs.held.run_panel.Goals as goal
 
 pub returns-in-Ok-clause-served : goal.returns-in-Ok-clause-served
 returns-in-Ok-clause-served g c =

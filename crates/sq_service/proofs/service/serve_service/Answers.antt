@@ -3,8 +3,8 @@ use Rattle.sq_control.specs.Attending.{Streams}
 use Rattle.sq_commands.specs.Ends.{end_of, is_silent}
 use Rattle.sq_commands.specs.Serving.{shown_service}
 use Rattle.sq_commands.specs.declared.ends.Status.{Status}
-use Rattle.sq_server.proofs.ServiceLaws.{finished}
-use Rattle.sq_server.proofs.service.serve_service.Goals as goal
+use Rattle.sq_service.proofs.ServiceLaws.{finished}
+use Rattle.sq_service.proofs.service.serve_service.Goals as goal
 
 pub returns : goal.returns
 returns g c =

@@ -1,15 +1,14 @@
 //! The run of a server's control, and how the server ends.
 ghost use Rattle.std.specs.Prelude.{◌≡◌, ◌<◌, ◌≤◌, ◌^◌, [], IfSome};
 ghost use Rattle.sq_commands.specs.declared.ends.Status.TheVariants as ends;
-ghost use Rattle.sq_server.specs.Service.{IsServed, IsUnservedEnd, ended_status};
+ghost use Rattle.sq_service.specs.Service.{IsServed, IsUnservedEnd, ended_status};
 
-use crate::serving::serve;
-use crate::starting::{Served, Start, Unserved};
 use crate::world::World;
 use sq_calls::DeskFault;
 use sq_commands::Status;
 use sq_control::{ControlPanel, PanelEnd};
 use sq_outside::{Net, Parts};
+use sq_server::{Served, Start, Unserved, serve};
 use std::alloc::Global;
 use std::sync::Wait;
 use std::thread::Threads;

@@ -15,7 +15,7 @@ use Rattle.sq_model.specs.Sources.{AreSourced, IsSourced}
 use Rattle.sq_calls.specs.Legality.{Beginning, IsLegal, IsStated}
 use Rattle.sq_replay.specs.Headline.{AreAccepted, IsAccepted}
 use Rattle.sq_replay.proofs.HeadlineLaws.{history_true}
-use Rattle.sq_server.specs.Service.{IsTrueFrom, IsTrueOrEmpty}
+use Rattle.sq_service.specs.Service.{IsTrueFrom, IsTrueOrEmpty}
 
 -- the current epoch is one of those from 1 up
 current_positive : (h : History) → 1 ≤ current h

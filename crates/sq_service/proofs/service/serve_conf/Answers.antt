@@ -1,8 +1,8 @@
 use Rattle.std.proofs.Common.{refl, ap}
 use Rattle.sq_control.specs.Attending.{Streams}
 use Rattle.sq_commands.specs.Serving.{shown_service}
-use Rattle.sq_server.proofs.ServiceLaws.{conf_failed, net_failed, served_from, served_service, served_texts}
-use Rattle.sq_server.proofs.service.serve_conf.Goals as goal
+use Rattle.sq_service.proofs.ServiceLaws.{conf_failed, net_failed, served_from, served_service, served_texts}
+use Rattle.sq_service.proofs.service.serve_conf.Goals as goal
 
 pub returns-in-Err : goal.returns-in-Err
 returns-in-Err g c =

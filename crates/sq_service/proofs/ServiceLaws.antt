@@ -26,11 +26,11 @@ use Rattle.sq_commands.specs.Outputs.{IsSettled}
 use Rattle.sq_commands.specs.Serving.{Server}
 use Rattle.sq_commands.specs.declared.ends.Status.{Status}
 use Rattle.sq_commands.specs.declared.ends.Status.TheVariants as ends
-use Rattle.sq_server.specs.Service.{CameTo, EndsByLine, EndsOver, EndsWell, IsConf, IsServed, IsServerEnd, IsService, IsServiceEnd, IsTrueOrEmpty, IsTrueOver, IsUnservedEnd, RunsOrNot, beginning_of, ended_status, port_of, server_seen, stopped_line}
+use Rattle.sq_service.specs.Service.{CameTo, EndsByLine, EndsOver, EndsWell, IsConf, IsServed, IsServerEnd, IsService, IsServiceEnd, IsTrueOrEmpty, IsTrueOver, IsUnservedEnd, RunsOrNot, beginning_of, ended_status, port_of, server_seen, stopped_line}
 use Rattle.sq_commands.proofs.EndLaws.{empty_line}
 use Rattle.sq_replay.specs.Openings.{Added}
 use Rattle.sq_replay.proofs.OpenedLaws.{Added_map}
-use Rattle.sq_server.proofs.TrueLaws.{journal_true, true_ran, true_unran}
+use Rattle.sq_service.proofs.TrueLaws.{journal_true, true_ran, true_unran}
 
 pub stopped_is : (e : PanelEnd) (stopped failed : Bool) → ended_status e stopped failed ≡ ends.JournalFault
     → stopped ≡ true

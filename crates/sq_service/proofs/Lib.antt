@@ -1,0 +1,2 @@
+mod ServiceLaws
+mod TrueLaws
