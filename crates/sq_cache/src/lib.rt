@@ -3,7 +3,7 @@
 //! `Kept` has the verdicts of one class under their keys, the newest use first, up to a limit. `peek` looks
 //! a fresh verdict up, `promote` moves its key to the front, and `take` does both. `put` puts a verdict in
 //! front and lets the least lately used go. `exchange` exchanges the verdicts of two classes. Each is one
-//! move of the definition (`KeptLists` and `Freshness` of `sq_rules`). `HashSeed` seeds the hashes of keys,
+//! move of the definition (`KeptLists` and `Freshness` of `sq_machine`). `HashSeed` seeds the hashes of keys,
 //! which strangers choose.
 #![tactic(auto)]
 
