@@ -8,7 +8,7 @@ use sq_base::{Listed, WantOfMemory};
 use std::alloc::Global;
 use std::mem;
 
-// Puts the values of another list at the end, and leaves that without them.
+// Puts the values of another list at the end. They are taken out of that, and no clause says what is left of it.
 fn append<T: Drop>(
     alloc: Global,
     values: &mut Listed<T>,
@@ -43,7 +43,8 @@ fn push_in_last(alloc: Global, lines: &mut Lines, term: Term) -> Result<(), Want
 }
 
 impl Leaf {
-    /// Puts the values of another leaf of its type at the end, and leaves that without them.
+    /// Puts the values of another leaf of its type at the end. They are taken out of that, and no clause says what is left
+    /// of it.
     pub fn join(&mut self, alloc: Global, more: &mut Leaf) -> Result<(), WantOfMemory>
         ensures ok { OnOk result (self.new ≡ joined_leaves self.old more.old) }
         ensures err { OnErr result (self.new ≡ self.old) }
@@ -64,7 +65,8 @@ impl Leaf {
 }
 
 impl Acl {
-    /// Puts further values into a leaf, and leaves that of which they are without them.
+    /// Puts the values of another leaf into a leaf of its type. They are taken out of that, and no clause says what is left
+    /// of it.
     pub fn join(&mut self, alloc: Global, more: &mut Leaf) -> Result<(), WantOfMemory>
         ensures named { self.new.name ≡ self.old.name }
         ensures ok { OnOk result
