@@ -12,7 +12,7 @@ use Rattle.sq_replay.specs.Openings.{Added}
 use Rattle.sq_replay.specs.RunText.{Shelf}
 use Rattle.sq_replay.proofs.HeadlineLaws.{run_true}
 use Rattle.sq_replay.proofs.OpenedLaws.{Added_map}
-use Rattle.sq_drafts.proofs.TextLaws.{gives_configuration}
+use Rattle.sq_conf.proofs.TextLaws.{gives_configuration}
 use Rattle.sq_verify.specs.declared.findings.Finding.{Finding}
 use Rattle.sq_verify.specs.declared.findings.Finding.TheVariants as finding
 use Rattle.sq_verify.specs.Judging.{judged}

@@ -10,3 +10,12 @@ mod SettleLaws
 mod ShelfLaws
 mod StageLaws
 mod VerifyLaws
+-- Laws of turns, of what they count, and of the history of a rehearsal.
+mod CountLaws
+mod TurnLaws
+mod LoopLaws
+mod FuelLaws
+mod WorldLaws
+mod TargetLaws
+mod AskLaws
+pub mod LegalLaws

@@ -25,7 +25,7 @@ use Rattle.sq_commands.specs.Outputs.{Delivers, DeliversAs, IsSettled}
 use Rattle.sq_commands.specs.ParseText.{parse_text}
 use Rattle.sq_commands.proofs.SettleLaws.{delivers_later}
 use Rattle.sq_commands.proofs.ShelfLaws.{begins_is, behind_is, first_is, tells_over}
-use Rattle.sq_drafts.proofs.TextLaws.{too_long}
+use Rattle.sq_conf.proofs.TextLaws.{too_long}
 
 -- what `open_conf` says of its openings
 abbrev pub ConfOpened : List ℕ → Result Configuration Status → List Opening → Type 0

@@ -6,9 +6,9 @@ use Rattle.sq_outside.specs.Told.{Openings, Texts}
 use Rattle.sq_replay.specs.Ends.{Faulted, Writing}
 use Rattle.sq_rules.specs.Configurations.{Configuration}
 use Rattle.sq_rules.specs.ConfText.{conf_result}
-use Rattle.sq_rehearse.specs.declared.summaries.Summary.{Summary}
-use Rattle.sq_rehearse.specs.Rehearsals.{configuration_text, rehearsal}
-use Rattle.sq_rehearse.specs.Summaries.{summary_line}
+use Rattle.sq_commands.specs.declared.summaries.Summary.{Summary}
+use Rattle.sq_commands.specs.Rehearsals.{configuration_text, rehearsal}
+use Rattle.sq_commands.specs.Summaries.{summary_line}
 use Rattle.sq_commands.specs.declared.ends.Status.{Status}
 use Rattle.sq_commands.specs.declared.ends.Status.TheVariants as ends
 use Rattle.sq_commands.specs.Commands.{Rehearse, command_of, command_output, conf_read, output_of, rehearse_output, rehearsed_by, rehearsed_stage, staged}

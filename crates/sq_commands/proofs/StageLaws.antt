@@ -5,7 +5,7 @@ use Rattle.sq_outside.specs.Told.{Texts}
 use Rattle.sq_rules.specs.Configurations.{Configuration}
 use Rattle.sq_rules.specs.Limits.{text_limit}
 use Rattle.sq_rules.specs.declared.kinds.Kind.TheVariants as kind
-use Rattle.sq_drafts.proofs.TextLaws.{too_long}
+use Rattle.sq_conf.proofs.TextLaws.{too_long}
 use Rattle.sq_commands.specs.declared.ends.Status.TheVariants as ends
 use Rattle.sq_commands.specs.Commands.{conf_read, conf_stage}
 use Rattle.sq_commands.specs.Ends.{Comes}

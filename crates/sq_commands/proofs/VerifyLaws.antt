@@ -10,7 +10,7 @@ use Rattle.sq_rules.specs.ConfText.{conf_result}
 use Rattle.sq_rules.specs.Configurations.{Configuration}
 use Rattle.sq_rules.specs.declared.kinds.ConfError.{ConfError}
 use Rattle.sq_replay.specs.Ends.{Faulted, Writing}
-use Rattle.sq_drafts.proofs.TextLaws.{gives_configuration}
+use Rattle.sq_conf.proofs.TextLaws.{gives_configuration}
 use Rattle.sq_verify.specs.declared.findings.Finding.{Finding}
 use Rattle.sq_verify.specs.declared.findings.Finding.TheVariants as finding
 use Rattle.sq_verify.specs.Judging.{Judged, judged}

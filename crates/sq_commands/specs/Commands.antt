@@ -15,8 +15,8 @@ use Rattle.sq_journal.specs.EntryText.{written}
 use Rattle.sq_journal.specs.Journals.{journal_text}
 use Rattle.sq_replay.specs.Headline.{IsTrue, IsTrueOrNone}
 use Rattle.sq_replay.specs.RunText.{ScriptRun, Shelf, configs_of, run_script, stated}
-use Rattle.sq_rehearse.specs.Rehearsals.{configuration_text, rehearsal}
-use Rattle.sq_rehearse.specs.Summaries.{summary_line}
+use Rattle.sq_commands.specs.Rehearsals.{configuration_text, rehearsal}
+use Rattle.sq_commands.specs.Summaries.{summary_line}
 use Rattle.sq_verify.specs.declared.findings.Finding.{Finding}
 use Rattle.sq_verify.specs.declared.findings.Finding.TheVariants as finding
 use Rattle.sq_verify.specs.declared.versions.Version.TheVariants as version

@@ -5,10 +5,10 @@ ghost use Rattle.sq_commands.specs.Ends.{Comes, HasCauses, IsConfEnd, IsRehearse
 ghost use Rattle.sq_commands.specs.Outputs.{Delivers};
 
 use crate::ends::Status;
+use crate::rehearsals::{configuration, rehearse as run};
 use crate::stages::judge_text;
 use sq_base::{Text, WantOfMemory};
 use sq_outside::{Failed, Sink, write_all};
-use sq_rehearse::{configuration, rehearse as run};
 use std::alloc::Global;
 
 // The line of a rehearsal of so many requests, which asks as many.

@@ -4,3 +4,5 @@ pub mod LexFaults
 pub mod Targets
 pub mod Texts
 pub mod Words
+pub mod MadeNames
+pub mod Sound

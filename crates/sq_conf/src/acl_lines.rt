@@ -7,6 +7,7 @@ ghost use Rattle.sq_rules.specs.Drafts.{are_patterns};
 ghost use Rattle.sq_rules.specs.Lookups.{is_dst};
 ghost use Rattle.sq_rules.specs.declared.configs.Body.TheVariants as body;
 
+use crate::builder::Builder;
 use crate::config_words::ConfigWords;
 use crate::faults::ReadFault;
 use crate::finds::find_values;
@@ -18,7 +19,6 @@ use crate::leaf_values::{
 use crate::terms::{acl_named, acl_type, action, has_type, known_terms};
 use crate::times::time_values;
 use sq_base::{Copying, Text};
-use sq_drafts::Builder;
 use sq_rules::{AclType, Kind, Leaf, Rule};
 use std::alloc::Global;
 

@@ -6,12 +6,12 @@ ghost use Rattle.sq_rules.specs.ClassLines.{class_line, class_name, class_of, wi
 ghost use Rattle.sq_rules.specs.Limits.{name_limit};
 ghost use Rattle.sq_rules.specs.Lookups.{classes_within};
 
+use crate::builder::Builder;
 use crate::class_drafts::ClassDraft;
 use crate::config_words::ConfigWords;
 use crate::faults::ReadFault;
 use crate::port_lines::note_if;
 use sq_base::{Copying, Text, WantOfMemory};
-use sq_drafts::Builder;
 use sq_rules::{Kind, NAME_LIMIT};
 use std::alloc::Global;
 

@@ -7,11 +7,11 @@ ghost use Rattle.sq_rules.specs.Drafts.{with_body, with_member};
 ghost use Rattle.sq_rules.specs.Lookups.{takes_members};
 ghost use Rattle.sq_rules.specs.declared.acl_types.AclType.TheVariants as type;
 
+use crate::builder::Builder;
 use crate::faults::ReadFault;
 use crate::leaf_values::is_unquoted;
 use crate::terms::known_term;
 use sq_base::{Copying, Text};
-use sq_drafts::Builder;
 use sq_rules::{Kind, MemberFault, Term};
 use std::alloc::Global;
 

@@ -4,13 +4,13 @@ ghost use Rattle.std.specs.Str.{str_to_ascii_lowercase};
 ghost use Rattle.sq_conf.specs.Forms.{Gives, Makes};
 ghost use Rattle.sq_rules.specs.HeaderLines.{header_line, header_name, is_field_name};
 
+use crate::builder::Builder;
 use crate::config_words::ConfigWords;
 use crate::faults::ReadFault;
 use crate::pool_lines::fast_terms;
 use crate::terms::action;
 use httparse::is_token;
 use sq_base::Text;
-use sq_drafts::Builder;
 use sq_rules::{HeaderRule, Kind, Rule, lowered};
 use std::alloc::Global;
 

@@ -7,13 +7,13 @@ ghost use Rattle.sq_rules.specs.Limits.{pool_limit};
 ghost use Rattle.sq_rules.specs.PoolLines.{class_for_pairs, fast_term, initial_line, limit_pairs_of, pool_access_line, pool_class, pool_class_line, pool_number, pool_pairs_line, pool_place, pools_line};
 ghost use Rattle.sq_rules.specs.Steps.{some_of};
 
+use crate::builder::Builder;
 use crate::config_words::ConfigWords;
 use crate::faults::ReadFault;
 use crate::numbers::{digits_of, is_digits, number_in};
 use crate::pairs::pair_of;
 use crate::terms::{action, known_term};
 use sq_base::{Listed, Text};
-use sq_drafts::Builder;
 use sq_rules::{
     INITIAL_LIMIT, Kind, Limits, POOL_LIMIT, Rule, Term, Terms, is_pool_class, pairs_of,
 };

@@ -5,12 +5,12 @@ ghost use Rattle.sq_rules.specs.ClassLines.{with_notice, with_notice_if};
 ghost use Rattle.sq_rules.specs.PoolLines.{mode_step, port_line, with_http_port};
 ghost use Rattle.sq_rules.specs.Steps.{over};
 
+use crate::builder::Builder;
 use crate::config_words::ConfigWords;
 use crate::faults::ReadFault;
 use crate::numbers::number_in;
 use crate::pairs::{has_host, port_text};
 use sq_base::{PORT_LIMIT, Text, WantOfMemory, is_among};
-use sq_drafts::Builder;
 use sq_rules::{Kind, Notice};
 use std::alloc::Global;
 

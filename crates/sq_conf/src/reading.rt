@@ -9,9 +9,11 @@ ghost use Rattle.sq_rules.specs.LookupLines.{behind_first, lookup_line};
 ghost use Rattle.sq_rules.specs.declared.kinds.Kind.{Kind};
 
 use crate::acl_lines::{acl_line, rule_line};
+use crate::builder::Builder;
 use crate::class_lines::class_line;
 use crate::config_words::ConfigWords;
 use crate::directives::directive_of;
+use crate::draft_faults::FinishFault;
 use crate::faults::{ConfFault, ReadFault};
 use crate::header_lines::header_line;
 use crate::lexing::lex;
@@ -22,7 +24,6 @@ use crate::pool_lines::{
 use crate::port_lines::{note, port_line};
 use crate::rewrite_lines::{children_line, program_line};
 use sq_base::{Line, LineFault, Text};
-use sq_drafts::{Builder, FinishFault};
 use sq_rules::{ConfError, Config, Directive, Kind, TEXT_LIMIT};
 use sq_urlmatch::{Setup, SetupFault};
 use std::alloc::Global;

@@ -3,11 +3,11 @@ ghost use Rattle.std.specs.Prelude.{◌≡◌, true, length, nat_lt, IfOk, OnOk}
 ghost use Rattle.sq_conf.specs.Forms.{Gives, Makes};
 ghost use Rattle.sq_rules.specs.RewriteLines.{children_line, children_words, program_line, program_words, with_children};
 
+use crate::builder::Builder;
 use crate::class_drafts::ClassDraft;
 use crate::config_words::ConfigWords;
 use crate::faults::ReadFault;
 use sq_base::{Copying, Listed, Text, Texts, WantOfMemory};
-use sq_drafts::Builder;
 use sq_rules::{Class, Kind};
 use std::alloc::Global;
 

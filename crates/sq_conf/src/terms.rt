@@ -6,10 +6,10 @@ ghost use Rattle.sq_rules.specs.AclLines.{acl_named, action, has_type, is_name, 
 ghost use Rattle.sq_rules.specs.Building.{place_of};
 ghost use Rattle.sq_rules.specs.Configurations.{are_known};
 
+use crate::builder::Builder;
 use crate::config_words::begins;
 use crate::faults::ReadFault;
 use sq_base::{Listed, Text, named};
-use sq_drafts::Builder;
 use sq_rules::{AclType, Kind, NAME_LIMIT, Term, Terms, has_blank};
 use std::alloc::Global;
 

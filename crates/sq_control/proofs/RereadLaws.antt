@@ -18,7 +18,7 @@ use Rattle.sq_rules.specs.ConfText.{conf_gives, conf_refuses}
 use Rattle.sq_rules.specs.Limits.{text_limit}
 use Rattle.sq_rules.specs.declared.kinds.ConfError.{ConfError}
 use Rattle.sq_rules.specs.declared.kinds.Kind.TheVariants as kind
-use Rattle.sq_drafts.proofs.TextLaws.{gives_source, too_long}
+use Rattle.sq_conf.proofs.TextLaws.{gives_source, too_long}
 use Rattle.sq_control.specs.Rereading.{Adds, AddsReread, OfFile, States, answers}
 
 -- a configuration that a text gives is the one that its source states

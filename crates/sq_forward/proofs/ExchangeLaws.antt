@@ -12,7 +12,7 @@ use Rattle.sq_outside.proofs.Writing.{IsPrefix_refl, IsPrefix_nil, IsPrefix_afte
 use Rattle.sq_message.specs.ReplyHeads.{reply_head_out_where}
 use Rattle.sq_message.specs.RequestHeads.{head_out_where, is_chunked}
 use Rattle.sq_message.specs.declared.replies.ReplyHead.{ReplyHead}
-use Rattle.sq_headers.specs.Access.{HeaderAccess}
+use Rattle.sq_forward.specs.Access.{HeaderAccess}
 use Rattle.sq_forward.specs.Exchanges.{shape_of, answered, continue_part, interim_texts, replied, replied_if, Fronts, EndsExchange, Exchanges, ExchangeHasCause, message, sink, exchange_seen}
 use Rattle.sq_forward.specs.Leading.{LeadsReply, LeadHasCause, PaysHeads, SentReply, SendsReply}
 use Rattle.sq_forward.specs.Meters.{granted_after, PaysAll, PaysPart, piece_limit, metered}

@@ -4,7 +4,7 @@ use Rattle.sq_base.specs.Requests.{HttpRequest}
 use Rattle.sq_outside.specs.Causes.{count_limit}
 use Rattle.sq_outside.proofs.Writing.{IsPrefix_refl}
 use Rattle.sq_message.specs.declared.replies.ReplyHead.{ReplyHead}
-use Rattle.sq_headers.specs.Access.{HeaderAccess}
+use Rattle.sq_forward.specs.Access.{HeaderAccess}
 use Rattle.sq_forward.specs.Exchanges.{interim_text, interim_texts}
 use Rattle.sq_forward.specs.Leading.{TakenHead, LedNowhere, LeadsReply, PaysHeads, LeadHasCause, own_head}
 use Rattle.sq_forward.specs.Meters.{PaysAll, metered}

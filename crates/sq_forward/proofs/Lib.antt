@@ -9,3 +9,6 @@ mod ReplyLaws
 mod RequestLaws
 mod SearchLaws
 mod WayLaws
+pub mod AccessLaws
+mod RuleLaws
+mod TableLaws

@@ -8,7 +8,7 @@ use Rattle.sq_message.specs.BodyPlans.{reply_plan}
 use Rattle.sq_message.specs.ReplyHeads.{reply_head_out_where}
 use Rattle.sq_message.specs.declared.faults.BadBody as bad
 use Rattle.sq_message.specs.declared.replies.ReplyHead.{ReplyHead}
-use Rattle.sq_headers.specs.Access.{HeaderAccess}
+use Rattle.sq_forward.specs.Access.{HeaderAccess}
 use Rattle.sq_message.specs.declared.replies.Shape.{Shape}
 use Rattle.sq_forward.specs.Copying.{CopiesBody, Copies, CopyHasCause, dry_after_copy}
 use Rattle.sq_forward.specs.Exchanges.{shape_of, is_to_close, body_end, replied_by, replied, ExchangeHasCause, dry_after_exchange}

@@ -12,7 +12,7 @@ use Rattle.sq_outside.specs.Causes.{Rose}
 use Rattle.sq_outside.specs.Output.{IsPrefix, Grew}
 use Rattle.sq_outside.proofs.Writing.{IsPrefix_nil, Grew_none, Grew_whole, Grew_more, Grew_after}
 use Rattle.sq_message.specs.RequestHeads.{head_out_where, is_chunked}
-use Rattle.sq_headers.specs.Access.{HeaderAccess}
+use Rattle.sq_forward.specs.Access.{HeaderAccess}
 use Rattle.sq_forward.specs.Copying.{CopiesBody, Copies, CopyHasCause, dry_after_copy}
 use Rattle.sq_forward.specs.Exchanges.{continue_part, dry_after_exchange, message, sink}
 use Rattle.sq_forward.specs.Meters.{PaysPart, metered}

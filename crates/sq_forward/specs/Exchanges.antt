@@ -16,7 +16,7 @@ use Rattle.sq_message.specs.RequestHeads.{crlf, head_out_where, is_chunked}
 use Rattle.sq_message.specs.Wishes.{wants_close, wants_continue}
 use Rattle.sq_message.specs.declared.faults.BadBody as bad
 use Rattle.sq_message.specs.declared.replies.ReplyHead.{ReplyHead}
-use Rattle.sq_headers.specs.Access.{HeaderAccess}
+use Rattle.sq_forward.specs.Access.{HeaderAccess}
 use Rattle.sq_message.specs.declared.replies.Shape.{Shape}
 use Rattle.sq_forward.specs.Meters.{Metered, granted_after, dry_limit, piece_limit}
 use Rattle.sq_forward.specs.Replies.{Reading, IsReading}

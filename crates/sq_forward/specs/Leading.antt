@@ -8,7 +8,7 @@ use Rattle.sq_outside.specs.Output.{IsPrefix}
 use Rattle.sq_message.specs.BodyPlans.{reply_plan}
 use Rattle.sq_message.specs.ReplyHeads.{reply_head_out_where}
 use Rattle.sq_message.specs.declared.replies.ReplyHead.{ReplyHead}
-use Rattle.sq_headers.specs.Access.{HeaderAccess}
+use Rattle.sq_forward.specs.Access.{HeaderAccess}
 use Rattle.sq_forward.specs.Exchanges.{shape_of, interim_texts, replied, dry_after_exchange}
 use Rattle.sq_forward.specs.Meters.{Metered, PaysAll, PaysPart, piece_limit}
 use Rattle.sq_forward.specs.Replies.{BeginsHead, AreInterim, IsReading, is_interim, interim_limit}

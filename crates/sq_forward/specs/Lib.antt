@@ -9,3 +9,5 @@ pub mod Replies
 pub mod Searching
 pub mod Sending
 pub mod Tunnels
+pub mod Access
+pub mod Standings

@@ -5,7 +5,7 @@ use Rattle.std.specs.Io.KnownBytes.{Appends}
 use Rattle.sq_message.specs.Bodies.{Walk, body_of, is_whole_body, is_refused}
 use Rattle.sq_outside.specs.Output.{IsPrefix, Grew}
 use Rattle.sq_message.specs.RequestHeads.{head_out_where, is_chunked}
-use Rattle.sq_headers.specs.Access.{HeaderAccess}
+use Rattle.sq_forward.specs.Access.{HeaderAccess}
 use Rattle.sq_forward.specs.Exchanges.{Message, SinkSeen, continue_part}
 use Rattle.sq_forward.specs.declared.copying.Copied.{Copied}
 use Rattle.sq_forward.specs.declared.copying.Copied.TheVariants as copied

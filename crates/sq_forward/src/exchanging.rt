@@ -1,7 +1,7 @@
 //! Exchanges: one request and its reply.
 ghost use Rattle.std.specs.Prelude.{◌≡◌, ◌≤◌, ◌+◌, ◌⊎◌, length, max, IfSome};
 ghost use Rattle.sq_message.specs.ReplyHeads.{most_bytes};
-ghost use Rattle.sq_headers.specs.Access.{access_by, header_access};
+ghost use Rattle.sq_forward.specs.Access.{access_by, header_access};
 ghost use Rattle.sq_outside.specs.Causes.{Rose};
 ghost use Rattle.sq_rules.specs.Facts.{facts_of};
 ghost use Rattle.sq_rules.specs.declared.sights.Sight.{Sight};

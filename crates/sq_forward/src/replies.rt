@@ -2,7 +2,7 @@
 ghost use Rattle.std.specs.Prelude.{◌≡◌, ◌≤◌, ◌+◌, length, max, IfSome, IfErr, IsErrOf};
 ghost use Rattle.sq_message.specs.BodyPlans.{reply_plan};
 ghost use Rattle.sq_message.specs.ReplyHeads.{most_bytes};
-ghost use Rattle.sq_headers.specs.Access.{access_by};
+ghost use Rattle.sq_forward.specs.Access.{access_by};
 ghost use Rattle.sq_outside.specs.Causes.{Rose};
 ghost use Rattle.sq_forward.specs.Exchanges.{shape_of, is_to_close, interim_text, ExchangeHasCause, dry_after_exchange};
 ghost use Rattle.sq_forward.specs.Halves.{to_come, read_limit, large_read_limit};
@@ -10,6 +10,7 @@ ghost use Rattle.sq_forward.specs.Leading.{TakesHead, LeadsReply, LeadHasCause, 
 ghost use Rattle.sq_forward.specs.Replies.{is_interim};
 ghost use Rattle.sq_forward.specs.Meters.{metered};
 
+use crate::allowed_heads::reply_head;
 use crate::copying::{Copied, copy_body};
 use crate::exchanging::Exchanged;
 use crate::half::Half;
@@ -18,7 +19,6 @@ use crate::meter::Meter;
 use crate::outgoing::Outgoing;
 use crate::paying::{Unpaid, pay};
 use sq_base::{BodyPlan, Request};
-use sq_headers::reply_head;
 use sq_message::{
     BadBody, ReplyHead, ReplyHeadFault, Shape, read_reply_head, reply_plan, wants_close,
 };

@@ -1,19 +1,19 @@
 //! The request of an exchange, on its way to the origin.
 ghost use Rattle.std.specs.Prelude.{◌≡◌, ◌≤◌, ◌⊎◌, length, max, IfSome};
 ghost use Rattle.sq_message.specs.RequestHeads.{is_chunked};
-ghost use Rattle.sq_headers.specs.Access.{access_by};
+ghost use Rattle.sq_forward.specs.Access.{access_by};
 ghost use Rattle.sq_outside.specs.Causes.{Rose};
 ghost use Rattle.sq_forward.specs.Exchanges.{continue_part, dry_after_exchange, message, sink};
 ghost use Rattle.sq_forward.specs.Halves.{to_come, large_read_limit};
 ghost use Rattle.sq_forward.specs.Sending.{sent, SendsRequest, SendHasCause};
 
+use crate::allowed_heads::request_head;
 use crate::copying::{Copied, copy_body};
 use crate::exchanging::Exchanged;
 use crate::free::Free;
 use crate::half::Half;
 use crate::outgoing::Outgoing;
 use sq_base::{BodyPlan, Request};
-use sq_headers::request_head;
 use sq_message::wants_continue;
 use sq_outside::{Failed, Sink, Source, write_all};
 use std::alloc::Global;

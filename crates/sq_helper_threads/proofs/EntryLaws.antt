@@ -4,7 +4,7 @@ use Rattle.std.specs.declared.option.Option.{Option}
 use Rattle.sq_base.specs.Replies.{question_text}
 use Rattle.sq_outside.specs.Causes.{Rose}
 use Rattle.sq_outside.specs.World.{StartsMore}
-use Rattle.sq_helper_pipes.specs.Pipes.{Changes, HalfTells}
+use Rattle.sq_keeper.specs.Pipes.{Changes, HalfTells}
 use Rattle.sq_calls.specs.Legality.{Beginning}
 use Rattle.sq_calls.proofs.MomentLaws.{act_grew, grew_and, grew_none, one_grew}
 use Rattle.sq_calls.specs.Moments.{AreNotedAt, GrewAt}

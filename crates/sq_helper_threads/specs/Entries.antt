@@ -3,7 +3,7 @@ use Rattle.std.specs.Prelude.{◌≡◌, ◌⊎◌, ℕ, List, [], ◌∷◌, tr
 use Rattle.std.specs.declared.option.Option.{Option}
 use Rattle.sq_outside.specs.Causes.{Rose}
 use Rattle.sq_outside.specs.World.{StartsMore}
-use Rattle.sq_helper_pipes.specs.Pipes.{Changes, HalfTells}
+use Rattle.sq_keeper.specs.Pipes.{Changes, HalfTells}
 use Rattle.sq_calls.specs.Moments.{GrewAt}
 use Rattle.sq_calls.specs.Telling.{MayAct}
 use Rattle.sq_machine.specs.declared.acts.Act.{Act}

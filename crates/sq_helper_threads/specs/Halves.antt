@@ -2,7 +2,7 @@
 -- nothing, and never fails.
 use Rattle.std.specs.Prelude.{ℕ, List, Bool, None}
 use Rattle.std.specs.declared.option.Option.{Option}
-use Rattle.sq_helper_pipes.specs.Pipes.{HalfTells, half_tells}
+use Rattle.sq_keeper.specs.Pipes.{HalfTells, half_tells}
 use Rattle.sq_helper_threads.specs.declared.halves.ProcIn.{ProcIn}
 use Rattle.sq_helper_threads.specs.declared.halves.ProcIn.TheVariants.{Asker, Child}
 

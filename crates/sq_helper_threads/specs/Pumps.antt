@@ -2,8 +2,8 @@
 use Rattle.std.specs.Prelude.{ℕ, List}
 use Rattle.std.specs.declared.option.Option.{Option}
 use Rattle.sq_outside.specs.World.{Starts}
-use Rattle.sq_helper_pipes.specs.Pipes.{HalfTells}
-use Rattle.sq_helper_pipes.specs.declared.pipes.Pipe.{Pipe}
+use Rattle.sq_keeper.specs.Pipes.{HalfTells}
+use Rattle.sq_keeper.specs.declared.pipes.Pipe.{Pipe}
 use Rattle.sq_machine.specs.Entries.{History}
 use Rattle.sq_rules.specs.Configurations.{Configuration}
 use Rattle.sq_calls.specs.Legality.{Beginning}

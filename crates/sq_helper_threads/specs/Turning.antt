@@ -6,8 +6,8 @@ use Rattle.sq_base.specs.Replies.{question_text}
 use Rattle.sq_outside.specs.Causes.{Rose}
 use Rattle.sq_outside.specs.Dials.{IsEmpty, IsOpen}
 use Rattle.sq_outside.specs.World.{StartsMore}
-use Rattle.sq_helper_pipes.specs.declared.pipes.Pipe.{Pipe}
-use Rattle.sq_helper_pipes.specs.Pipes.{Asks, Fails, HalfTells, Shuts, Changes, open_ones, pipe_place}
+use Rattle.sq_keeper.specs.declared.pipes.Pipe.{Pipe}
+use Rattle.sq_keeper.specs.Pipes.{Asks, Fails, HalfTells, Shuts, Changes, open_ones, pipe_place}
 use Rattle.sq_machine.specs.declared.acts.Act.{Act}
 use Rattle.sq_machine.specs.declared.acts.Act.TheVariants as act
 use Rattle.sq_calls.specs.Legality.{Beginning}

@@ -11,7 +11,7 @@ use crate::reader::Reader;
 use crate::turns::Left;
 use sq_base::{ProcNo, WantOfMemory};
 use sq_calls::HelperCalls;
-use sq_helper_pipes::Pipes;
+use sq_keeper::Pipes;
 use sq_outside::{Clock, Spawner};
 use std::alloc::Global;
 use std::marker::Model;
@@ -34,7 +34,7 @@ pub struct ServePump<'a, S: Spawner, K: HelperCalls, R: Wait> {
 
 impl<'a, S: Spawner, K: HelperCalls, R: Wait> Model for ServePump<'a, S, K, R> {
     ghost use Rattle.std.specs.Prelude.{◌-◌, vec_capacity, vec_len};
-    ghost use Rattle.sq_helper_pipes.specs.PipeViews.{pipes_of};
+    ghost use Rattle.sq_keeper.specs.PipeViews.{pipes_of};
     ghost use Rattle.sq_helper_threads.specs.Pumps.{PumpView};
     ghost use Rattle.sq_helper_threads.specs.declared.halves.ProcIn.{ProcIn};
 

@@ -11,7 +11,7 @@ use crate::pump::ServePump;
 use crate::turns::{Left, Turn};
 use sq_base::{Moment, ProcNo, QuestionNo, Text};
 use sq_calls::{DeskFault, HelperCalls};
-use sq_helper_pipes::SendEnd;
+use sq_keeper::SendEnd;
 use sq_machine::Act;
 use sq_outside::{Clock, Spawner};
 use std::sync::Wait;

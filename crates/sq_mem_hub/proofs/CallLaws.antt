@@ -23,7 +23,7 @@ use Rattle.sq_checks.specs.OpenChecks.{CheckParts, row, rows_of}
 use Rattle.sq_checks.specs.Records.{Judged, judged_of}
 use Rattle.sq_checks.specs.Tables.{value_at}
 use Rattle.sq_rewrite.specs.States.{RewriteState}
-use Rattle.sq_conn_policy.specs.Tellings.{DelayPools}
+use Rattle.sq_turns.specs.Tellings.{DelayPools}
 use Rattle.sq_model.specs.Answers.{take_answer, take_of_held}
 use Rattle.sq_model.specs.Promises.{IsAnswered, StandsFor}
 use Rattle.sq_model.specs.States.{IsSame, State, is_of_pools, machine_moment}
@@ -35,8 +35,8 @@ use Rattle.sq_engine.specs.EngineViews.{EngineView, state_of}
 use Rattle.sq_engine.specs.Promised.{IsPromised}
 use Rattle.sq_engine.specs.Stepping.{stepped_told}
 use Rattle.sq_engine.specs.Tellings.{IsAlwaysTold}
-use Rattle.sq_conn_policy.specs.Tellings.{AreKept, Asks, BegunCheck, BeginsCheck, HubState, IsCheck, IsNext, IsOfCheck, IsRefused, IsStep, IsTaken, Makes, MakesOn, Takes, asks_for, begun_of, machine_now}
-use Rattle.sq_conn_policy.specs.declared.hub.HubFault.{HubFault}
+use Rattle.sq_turns.specs.Tellings.{AreKept, Asks, BegunCheck, BeginsCheck, HubState, IsCheck, IsNext, IsOfCheck, IsRefused, IsStep, IsTaken, Makes, MakesOn, Takes, asks_for, begun_of, machine_now}
+use Rattle.sq_turns.specs.declared.hub.HubFault.{HubFault}
 use Rattle.sq_mem_hub.specs.MemHubs.{begun_in, check_of, hub_result, hub_state}
 
 same_self : (s : State) → IsSame s s

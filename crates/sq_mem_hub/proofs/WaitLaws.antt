@@ -12,7 +12,7 @@ use Rattle.sq_machine.specs.declared.entries.Event.TheVariants as event
 use Rattle.sq_machine.specs.declared.entries.Told.{Told}
 use Rattle.sq_machine.specs.declared.refusals.Refusal.{Refusal}
 use Rattle.sq_machine.specs.declared.acts.Act.{Act}
-use Rattle.sq_conn_policy.proofs.WorkLaws.{works_same, works_self, works_then}
+use Rattle.sq_turns.proofs.WorkLaws.{works_same, works_self, works_then}
 use Rattle.sq_rewrite.specs.Calls.{Call, Asked, Acted, Took}
 use Rattle.sq_rewrite.specs.States.{Answers, Refuses, RewriteState, act_due, after, ask_refusal, is_of_processes, row_at, take_refusal, taken_of}
 use Rattle.sq_rewrite.specs.declared.acts.RewriteAct.{RewriteAct}
@@ -20,7 +20,7 @@ use Rattle.sq_rewrite.specs.declared.faults.RewriteFault.{RewriteFault}
 use Rattle.sq_rewrite.specs.declared.rewritings.Rewriting.{Rewriting}
 use Rattle.sq_rules.specs.declared.sights.Sight.{Sight}
 use Rattle.sq_checks.specs.Records.{Judged}
-use Rattle.sq_conn_policy.specs.Tellings.{DelayPools}
+use Rattle.sq_turns.specs.Tellings.{DelayPools}
 use Rattle.sq_model.proofs.Lawful.{stands_same}
 use Rattle.sq_model.specs.Answers.{name_in}
 use Rattle.sq_model.specs.Promises.{IsAnswered, StandsFor}
@@ -28,7 +28,7 @@ use Rattle.sq_model.specs.States.{IsSame, is_of_pools}
 use Rattle.sq_engine.specs.Acting.{IsActPromised, told_of_act}
 use Rattle.sq_engine.specs.EngineViews.{EngineView, state_of}
 use Rattle.sq_engine.specs.Promised.{IsPromised, IsPromisedAt}
-use Rattle.sq_conn_policy.specs.Tellings.{AreKept, HubState, PutsBy, StandsAt, TakesBy, Waited, Works, comes_outside, is_outside}
+use Rattle.sq_turns.specs.Tellings.{AreKept, HubState, PutsBy, StandsAt, TakesBy, Waited, Works, comes_outside, is_outside}
 use Rattle.sq_mem_hub.specs.MemHubs.{WorksOn, begun_in, hub_state}
 use Rattle.sq_mem_hub.proofs.CallLaws.{kept_same, next_by}
 

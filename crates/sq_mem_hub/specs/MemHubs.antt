@@ -9,9 +9,9 @@ use Rattle.sq_rewrite.specs.States.{RewriteState}
 use Rattle.sq_pools.specs.Basins.{Basin}
 use Rattle.sq_engine.specs.Begun.{Begun, begun_at}
 use Rattle.sq_engine.specs.EngineViews.{EngineView, state_of}
-use Rattle.sq_conn_policy.specs.Tellings.{BegunCheck, DelayPools, HubState, Works}
-use Rattle.sq_conn_policy.specs.declared.hub.HubFault.{HubFault}
-use Rattle.sq_conn_policy.specs.declared.hub.HubFault.TheVariants as fault
+use Rattle.sq_turns.specs.Tellings.{BegunCheck, DelayPools, HubState, Works}
+use Rattle.sq_turns.specs.declared.hub.HubFault.{HubFault}
+use Rattle.sq_turns.specs.declared.hub.HubFault.TheVariants as fault
 
 abbrev pub check_of : Begun → BegunCheck
 check_of b = record { config = b.config; sight = b.sight; pool = b.pool }

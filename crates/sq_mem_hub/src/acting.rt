@@ -1,5 +1,5 @@
 //! What comes to the machine while a check waits.
-ghost use Rattle.sq_conn_policy.specs.Tellings.{DelayPools, Waited};
+ghost use Rattle.sq_turns.specs.Tellings.{DelayPools, Waited};
 ghost use Rattle.sq_mem_hub.specs.MemHubs.{hub_state};
 ghost use Rattle.sq_rewrite.specs.States.{RewriteState};
 ghost use Rattle.std.specs.declared.option.Option.{Option};

@@ -4,9 +4,9 @@ ghost use Rattle.sq_base.specs.Targets.{target_of};
 ghost use Rattle.sq_outside.specs.Causes.{raised};
 ghost use Rattle.sq_rules.specs.Sights.{asked_request, unversioned};
 ghost use Rattle.sq_mem_hub.specs.MemHubs.{hub_result};
-ghost use Rattle.sq_conn_policy.specs.Hubs.{HubRefuses, HubFails, asked_by};
-ghost use Rattle.sq_conn_policy.specs.Pieces.{RunsTo};
-ghost use Rattle.sq_conn_policy.specs.Tellings.{PutsBy, TakesBy};
+ghost use Rattle.sq_turns.specs.Hubs.{HubRefuses, HubFails, asked_by};
+ghost use Rattle.sq_turns.specs.Pieces.{RunsTo};
+ghost use Rattle.sq_turns.specs.Tellings.{PutsBy, TakesBy};
 ghost use Rattle.std.specs.Prelude.{[]};
 
 use crate::acting::{Asked, act_all, hear};
@@ -14,7 +14,6 @@ use crate::rewriting::{hear_rewriter, work};
 use sq_base::{Addr, CheckNo, ConnNo, EpochNo, Moment, QuestionNo, Request, Text, WantOfMemory};
 use sq_cache::HashSeed;
 use sq_checks::Record;
-use sq_conn_policy::{Hub, HubFault};
 use sq_engine::Engine;
 use sq_machine::{Offset, Refusal};
 use sq_model::Stepped;
@@ -22,7 +21,7 @@ use sq_outside::{raised, raised_by};
 use sq_pools::{ChooseFault, Pools, Seat, TagPools, TagSeat};
 use sq_rewrite::{RewriteFault, Rewriter, Rewriting};
 use sq_rules::{Class, Config};
-use sq_turns::Counts;
+use sq_turns::{Counts, Hub, HubFault};
 use sq_urlmatch::Setup;
 use std::alloc::Global;
 use std::sync::{Arc, Wait};
@@ -139,8 +138,8 @@ impl<'a, R: Wait> MemHub<'a, R> {
     ghost use Rattle.sq_engine.specs.EngineViews.{state_of};
     ghost use Rattle.sq_machine.specs.declared.entries.Event.TheVariants as event;
     ghost use Rattle.sq_machine.specs.declared.entries.Told.TheVariants as told;
-    ghost use Rattle.sq_conn_policy.specs.Pieces.{RunsTo};
-    ghost use Rattle.sq_conn_policy.specs.Tellings.{StandsAt};
+    ghost use Rattle.sq_turns.specs.Pieces.{RunsTo};
+    ghost use Rattle.sq_turns.specs.Tellings.{StandsAt};
 
     /// A machine that begins with this configuration at this moment, with its rewriter, if it has one, and its pools. The
     /// helper processes write these lines, and those of the rewriter these, the last one first.

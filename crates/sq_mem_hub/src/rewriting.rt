@@ -1,5 +1,5 @@
 //! What comes to the rewriter while a question waits.
-ghost use Rattle.sq_conn_policy.specs.Tellings.{Works};
+ghost use Rattle.sq_turns.specs.Tellings.{Works};
 ghost use Rattle.sq_mem_hub.specs.MemHubs.{WorksOn};
 
 use crate::acting::Asked;

@@ -8,13 +8,13 @@ ghost use Rattle.sq_commands.specs.Commands.{command_of, output_of, AuditsFiles,
 ghost use Rattle.sq_commands.specs.Ends.{EndsBy, EndsWithoutFault, IfMissing};
 ghost use Rattle.sq_commands.specs.Opened.{CameOf};
 ghost use Rattle.sq_commands.specs.Outputs.{IsOutput};
-ghost use Rattle.sq_service.specs.Service.{IsService};
+ghost use Rattle.sq_server.specs.Service.{IsService};
 ghost use Rattle.sq_commands.specs.Serving.{service_of};
 ghost use Rattle.sq_replay.specs.Openings.{Added};
 
 use sq_base::Text;
 use sq_commands::{Status, read_service, run_command};
-use sq_service::{Platform, World, serve_service};
+use sq_server::{Platform, World, serve_service};
 use std::alloc::Global;
 use std::sync::Wait;
 use std::thread::Threads;

@@ -30,7 +30,7 @@ use Rattle.sq_replay.proofs.GrowthLaws.{acts_grow, event_grows}
 use Rattle.sq_replay.proofs.LoopLaws.{front_more, part_more}
 use Rattle.sq_replay.proofs.MakingLaws.{made_asks, refused_asks}
 use Rattle.sq_replay.proofs.OpeningLaws.{tells_text}
-use Rattle.sq_drafts.proofs.TextLaws.{gives_source, too_long}
+use Rattle.sq_conf.proofs.TextLaws.{gives_source, too_long}
 
 -- acts
 

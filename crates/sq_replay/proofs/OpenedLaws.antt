@@ -17,7 +17,7 @@ use Rattle.sq_replay.specs.Entering.{IsBeginEnd, IsEmptyEnd, IsJudgeEnd, IsPlain
 use Rattle.sq_replay.specs.Openings.{Added, AllGive, LinesOpened, MayOpen, NameOpened, OpenedSoFar, ReachesEnd, RunOpened, StepOpened, StopOpened, before_names, name_at, name_in, name_of, names_in, next_name, opened_names}
 use Rattle.sq_replay.specs.RunText.{stated}
 use Rattle.sq_replay.specs.Runs.{IsStepEnd, whole_line}
-use Rattle.sq_drafts.proofs.TextLaws.{too_long}
+use Rattle.sq_conf.proofs.TextLaws.{too_long}
 
 -- openings that were added
 

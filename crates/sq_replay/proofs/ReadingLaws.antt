@@ -7,7 +7,7 @@ use Rattle.sq_machine.specs.declared.entries.Event.TheVariants.{Reconfigure}
 use Rattle.sq_rules.specs.declared.kinds.ConfError.{ConfError}
 use Rattle.sq_rules.specs.Configurations.{Configuration, IsConfiguration}
 use Rattle.sq_rules.specs.ConfText.{conf_result}
-use Rattle.sq_drafts.proofs.TextLaws.{gives_configuration}
+use Rattle.sq_conf.proofs.TextLaws.{gives_configuration}
 use Rattle.sq_model.specs.Given.{EachOf}
 use Rattle.sq_replay.specs.RunText.{Shelf, configs_of, named_by, named_from, named_in, stated, with_config, with_text}
 

@@ -17,7 +17,7 @@ use Rattle.sq_replay.specs.Headline.{AreAccepted, IsAhead, IsAccepted}
 use Rattle.sq_replay.specs.RunText.{Shelf, acts, begun_history, configs_of, first_history, named_by, named_from, named_in, run_script, stated, with_config, with_text}
 use Rattle.sq_replay.specs.Steps.{IsEntered, IsNamed, IsStep}
 use Rattle.sq_replay.proofs.ActLaws.{acts_keep}
-use Rattle.sq_drafts.proofs.TextLaws.{gives_source}
+use Rattle.sq_conf.proofs.TextLaws.{gives_source}
 use Rattle.sq_replay.proofs.RunLaws.{OrNone, Stays, begun_legal, run_keeps, step_legal}
 
 -- acts begin no epoch

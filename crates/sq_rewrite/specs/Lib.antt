@@ -5,3 +5,8 @@ pub mod Rounds
 pub mod States
 pub mod Statuses
 pub mod Transcripts
+pub mod Handing
+pub mod LineViews
+pub mod Pumps
+pub mod RewriterCalls
+pub mod Turning

@@ -1,3 +1,5 @@
 mod BeginLaws
 mod SetupLaws
 mod ThreadLaws
+mod ServiceLaws
+mod TrueLaws

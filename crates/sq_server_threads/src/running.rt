@@ -13,8 +13,7 @@ use sq_control::{ListenerMonitor, Panel, PanelEnd};
 use sq_helper_threads::{KeeperParts, PumpParts, PumpTools, Shelf, pump_all};
 use sq_outside::{Another, Clock, Listener, Spawner, Stopper};
 use sq_pools::{Bank, Pools, TagPools};
-use sq_rewrite::RewriterRoom;
-use sq_rewrite_pump::{RewriterShelf, rewrite_all};
+use sq_rewrite::{RewriterRoom, RewriterShelf, rewrite_all};
 use sq_shared::{
     Asks, Door, Grants, Hall, HelperTypes, Ledgers, Makes, NetTypes, Refusals, Room, WorkerTypes,
     has_failed, set_done,

@@ -9,7 +9,7 @@ use Rattle.sq_outside.specs.Output.{IsPrefix, Grew}
 use Rattle.sq_outside.proofs.Writing.{IsPrefix_refl, IsPrefix_more, IsPrefix_after}
 use Rattle.sq_message.specs.OwnReplies.{error_text}
 use Rattle.sq_message.specs.declared.own.Own.TheVariants.{BadGateway}
-use Rattle.sq_headers.specs.Access.{HeaderAccess, header_access}
+use Rattle.sq_forward.specs.Access.{HeaderAccess, header_access}
 use Rattle.sq_checks.specs.Records.{Judged}
 use Rattle.sq_rules.specs.Configurations.{Configuration}
 use Rattle.sq_rules.specs.Facts.{facts_of}

@@ -6,7 +6,7 @@ use Rattle.sq_base.specs.declared.plans.BodyPlan.{BodyPlan}
 use Rattle.sq_outside.specs.Causes.{count_limit}
 use Rattle.sq_outside.specs.Dials.{Dial, Dialled, Origin, CallsMore, DialsMore, DialReaches, GivesDial}
 use Rattle.std.specs.Io.KnownBytes.{Appends, prepend_known}
-use Rattle.sq_headers.specs.Access.{HeaderAccess}
+use Rattle.sq_forward.specs.Access.{HeaderAccess}
 use Rattle.sq_forward.specs.Replies.{Reading}
 use Rattle.sq_turns.specs.Fronts.{FrontAnswer}
 use Rattle.sq_turns.specs.Forwarding.{Forwards, given_by}

@@ -4,7 +4,7 @@ use Rattle.std.specs.declared.option.Option.{Option}
 use Rattle.std.specs.Io.KnownBytes.{Appends}
 use Rattle.sq_outside.specs.Dials.{Dial}
 use Rattle.sq_outside.specs.Output.{IsPrefix}
-use Rattle.sq_headers.specs.Access.{HeaderAccess}
+use Rattle.sq_forward.specs.Access.{HeaderAccess}
 use Rattle.sq_forward.specs.Exchanges.{Message, ExchangeSeen, exchange}
 use Rattle.sq_forward.specs.Replies.{Reading}
 use Rattle.sq_forward.specs.declared.tunnels.Tunnelled.{Tunnelled}

@@ -8,3 +8,8 @@ pub mod Written
 pub mod Told
 pub mod Turns
 pub mod Verdicts
+pub mod Completeness
+pub mod Hubs
+pub mod Tellings
+pub mod Judging
+pub mod Pieces

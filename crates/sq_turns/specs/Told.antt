@@ -5,7 +5,7 @@ use Rattle.sq_base.specs.Addresses.{Address}
 use Rattle.sq_base.specs.Requests.{HttpRequest}
 use Rattle.sq_checks.specs.Records.{Judged}
 use Rattle.sq_forward.specs.Exchanges.{Message, ExchangeSeen}
-use Rattle.sq_headers.specs.Access.{HeaderAccess}
+use Rattle.sq_forward.specs.Access.{HeaderAccess}
 use Rattle.sq_outside.specs.Dials.{Dialled}
 use Rattle.sq_turns.specs.Begins.{BeginsSo}
 use Rattle.sq_turns.specs.Carrying.{Carries, Obeys}

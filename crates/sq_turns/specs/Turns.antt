@@ -16,7 +16,7 @@ use Rattle.sq_message.specs.declared.faults.BadBody as body
 use Rattle.sq_message.specs.declared.faults.BadBody.TheVariants.{BothLengths, BadLength, BadCoding}
 use Rattle.sq_message.specs.declared.own.Own.{Own}
 use Rattle.sq_message.specs.declared.own.Own.TheVariants.{BadRequest, HeadTooLarge, Inner, Stopped, NoMemory, NotImplemented, BadGateway}
-use Rattle.sq_headers.specs.Access.{HeaderAccess, header_access}
+use Rattle.sq_forward.specs.Access.{HeaderAccess, header_access}
 use Rattle.sq_forward.specs.Exchanges.{Exchange, Message, exchange, message}
 use Rattle.sq_forward.specs.Replies.{Reading}
 use Rattle.sq_forward.specs.declared.exchanging.Exchanged.{Exchanged}

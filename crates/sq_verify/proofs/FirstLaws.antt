@@ -13,7 +13,7 @@ use Rattle.sq_machine.specs.Readings.{current}
 use Rattle.sq_model.specs.Given.{EachOf}
 use Rattle.sq_replay.specs.Headline.{IsAccepted}
 use Rattle.sq_replay.specs.RunText.{with_config}
-use Rattle.sq_drafts.proofs.TextLaws.{gives_configuration}
+use Rattle.sq_conf.proofs.TextLaws.{gives_configuration}
 use Rattle.sq_verify.specs.declared.versions.Version.{Version}
 use Rattle.sq_verify.specs.JournalLines.{line_in, line_limit, noted_in}
 use Rattle.sq_verify.specs.Judging.{begun_line, epochs_of, first_line, named_by, named_from, named_in, stated_first}

@@ -16,7 +16,7 @@ use Rattle.sq_conf.specs.declared.faults.ConfFault.{ConfFault}
 use Rattle.sq_conf.specs.declared.faults.ConfFault.TheVariants as conf
 use Rattle.sq_rules.specs.declared.kinds.Kind.{Kind}
 use Rattle.sq_rules.specs.ConfText.{conf_refuses, conf_result}
-use Rattle.sq_drafts.proofs.TextLaws.{gives_source}
+use Rattle.sq_conf.proofs.TextLaws.{gives_source}
 use Rattle.sq_verify.specs.Promised.{Accepts, IsNone, MayFollow, Plays, stop_for}
 
 may : (event : Event) → begins_epoch event ≡ false → MayStand event → MayFollow event

@@ -4,7 +4,7 @@ use Rattle.sq_outside.specs.Causes.{Rose, count_limit, raised}
 use Rattle.sq_calls.specs.declared.faults.DeskFault.{DeskFault}
 use Rattle.sq_calls.specs.declared.faults.DeskFault.TheVariants as fault
 use Rattle.sq_shared.specs.Books.{SharesMade, SharesRefusal}
-use Rattle.sq_conn_policy.specs.Hubs.{HubFails, HubRefuses, asked_by, granted_by}
+use Rattle.sq_turns.specs.Hubs.{HubFails, HubRefuses, asked_by, granted_by}
 use Rattle.sq_workers.specs.HubFaults.{hub_gave}
 
 rose : (a b : ℕ) → b ≡ a + 1 → Rose (min a count_limit) (min b count_limit)

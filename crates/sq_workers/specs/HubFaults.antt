@@ -2,8 +2,8 @@
 use Rattle.std.specs.Prelude.{Result, Ok, Err}
 use Rattle.sq_calls.specs.declared.faults.DeskFault.{DeskFault}
 use Rattle.sq_calls.specs.declared.faults.DeskFault.TheVariants as fault
-use Rattle.sq_conn_policy.specs.declared.hub.HubFault.{HubFault}
-use Rattle.sq_conn_policy.specs.declared.hub.HubFault.TheVariants as hub
+use Rattle.sq_turns.specs.declared.hub.HubFault.{HubFault}
+use Rattle.sq_turns.specs.declared.hub.HubFault.TheVariants as hub
 
 -- a desk that has stopped is a journal that failed
 abbrev pub hub_fault : DeskFault → HubFault

@@ -6,7 +6,6 @@ ghost use Rattle.sq_workers.specs.HubFaults.{hub_fault, hub_gave};
 use sq_base::{Addr, CheckNo, ConnNo, EpochNo, Moment, QuestionNo, Request, Text};
 use sq_calls::{DeskCalls, DeskFault};
 use sq_checks::Record;
-use sq_conn_policy::{Hub, HubFault};
 use sq_model::Stepped;
 use sq_outside::{Clock, raised, raised_by};
 use sq_pools::{Bank, ChooseFault, Seat, TagSeat};
@@ -16,7 +15,7 @@ use sq_shared::{
     Asks, Grants, Ledgers, Refusals, Room, holds, number_told, wait_answered, wake_after_step,
     wake_if_stopped,
 };
-use sq_turns::Counts;
+use sq_turns::{Counts, Hub, HubFault};
 use std::alloc::Global;
 use std::sync::ledger::Share;
 use std::sync::{Arc, Mutex, Wait};

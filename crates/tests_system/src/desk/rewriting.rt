@@ -5,11 +5,10 @@ use crate::desk::desks::append;
 use crate::desk::locked::{Table, check};
 use sq_base::{ConnNo, Fields, ProcNo, QuestionNo, Request, number_of};
 use sq_checks::Record;
-use sq_conn_policy::Hub;
 use sq_request::make_request;
-use sq_rewrite::{Got, RewriteAct, RewriteFault, Rewriter, Rewriting};
-use sq_rewrite_pump::RewriterCalls;
+use sq_rewrite::{Got, RewriteAct, RewriteFault, Rewriter, RewriterCalls, Rewriting};
 use sq_rules::Config;
+use sq_turns::Hub;
 use std::alloc::Global;
 use std::process::Abort;
 

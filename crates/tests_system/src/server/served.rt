@@ -7,7 +7,7 @@ use sq_cache::HashSeed;
 use sq_journal::{MemJournal, print_entry};
 use sq_outside_mem::{MemFile, MemFiles, MemName, MemSink, Wire};
 use sq_proxy::proxy;
-use sq_service::Platform;
+use sq_server::Platform;
 use std::alloc::Global;
 use std::process::Abort;
 use std::sync::Wait;

@@ -1,5 +1,5 @@
 use Rattle.std.proofs.Common.{◌≡◌, true, sym, subst, ◌∙◌}
-use Rattle.sq_drafts.proofs.GroupLaws.{takes_any}
+use Rattle.sq_conf.proofs.GroupLaws.{takes_any}
 use Rattle.sq_rules.specs.AclLines.{has_type}
 use Rattle.sq_rules.specs.declared.acl_types.AclType.TheVariants as type
 use Rattle.sq_conf.proofs.groups.any_of.Goals as goal

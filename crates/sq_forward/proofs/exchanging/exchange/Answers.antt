@@ -1,7 +1,7 @@
 use Rattle.std.proofs.Common.{◌⊎◌, IfSome, subst}
 use Rattle.std.specs.Io.KnownBytes.{prepend_known}
-use Rattle.sq_headers.proofs.AccessLaws.{access_at}
-use Rattle.sq_headers.specs.Access.{HeaderAccess}
+use Rattle.sq_forward.proofs.AccessLaws.{access_at}
+use Rattle.sq_forward.specs.Access.{HeaderAccess}
 use Rattle.sq_outside.specs.Causes.{Rose}
 use Rattle.sq_forward.specs.Exchanges.{Exchanges, message, sink, exchange_seen}
 use Rattle.sq_forward.specs.Meters.{metered}

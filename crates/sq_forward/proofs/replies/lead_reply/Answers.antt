@@ -1,6 +1,6 @@
 use Rattle.std.proofs.Common.{inr, IfSome, Err, refl, sym, ap, subst, ◌∙◌, arith, rules}
 use Rattle.std.specs.Io.KnownBytes.{prepend_known}
-use Rattle.sq_headers.specs.Access.{access_by}
+use Rattle.sq_forward.specs.Access.{access_by}
 use Rattle.sq_forward.specs.Exchanges.{interim_text}
 use Rattle.sq_forward.specs.Leading.{TakesHead, PaysHeads}
 use Rattle.sq_forward.specs.Meters.{PaysAll, metered}

@@ -1,6 +1,6 @@
 use Rattle.std.proofs.Common.{◌≡◌, ◌≤◌, ◌+◌, length, max}
 use Rattle.std.specs.Io.KnownBytes.{prepend_known}
-use Rattle.sq_headers.specs.Access.{access_by}
+use Rattle.sq_forward.specs.Access.{access_by}
 use Rattle.sq_message.specs.ReplyHeads.{most_bytes}
 use Rattle.sq_forward.specs.Halves.{read_limit}
 use Rattle.sq_forward.specs.Replies.{interim_limit}

@@ -1,6 +1,6 @@
 use Rattle.std.proofs.Common.{Err, sym, ap, ◌∙◌, rules}
 use Rattle.sq_message.specs.ReplyHeads.{reply_head_out_where}
-use Rattle.sq_headers.specs.Access.{access_by}
+use Rattle.sq_forward.specs.Access.{access_by}
 use Rattle.sq_forward.specs.Leading.{body_sent}
 use Rattle.sq_forward.proofs.ReplyLaws.{reply_unplanned, reply_no_memory, reply_begun, reply_starved, reply_sent}
 use Rattle.sq_forward.proofs.replies.send_reply.Goals as goal

@@ -1,7 +1,7 @@
 use Rattle.std.proofs.Common.{Option}
 use Rattle.sq_rewrite.specs.States.{RewriteState}
-use Rattle.sq_conn_policy.specs.Tellings.{Waited}
-use Rattle.sq_conn_policy.specs.Tellings.{DelayPools}
+use Rattle.sq_turns.specs.Tellings.{Waited}
+use Rattle.sq_turns.specs.Tellings.{DelayPools}
 use Rattle.sq_mem_hub.specs.MemHubs.{hub_state}
 use Rattle.sq_mem_hub.proofs.acting.act_all.Given as goal
 

@@ -1,5 +1,5 @@
 use Rattle.std.proofs.Common.{sym, subst}
-use Rattle.sq_conn_policy.specs.Tellings.{Waited}
+use Rattle.sq_turns.specs.Tellings.{Waited}
 use Rattle.sq_mem_hub.specs.MemHubs.{hub_state}
 use Rattle.sq_mem_hub.proofs.WaitLaws.{waited_self}
 use Rattle.sq_mem_hub.proofs.acting.perform.Goals as goal

@@ -1,6 +1,6 @@
 use Rattle.std.proofs.Common.{sym, ◌∙◌, subst}
 use Rattle.std.proofs.lemmas.Option.{none-some}
-use Rattle.sq_service.specs.Service.{IsServiceEnd}
+use Rattle.sq_server.specs.Service.{IsServiceEnd}
 use Rattle.sq_commands.proofs.DoneLaws.{migrates_truly_told, runs_truly_told}
 use Rattle.sq_proxy.proofs.proxying.proxy.Goals as goal
 

@@ -7,7 +7,7 @@ use Rattle.sq_replay.specs.MachineViews.{machine_of}
 use Rattle.sq_replay.specs.Making.{IsReconfiguring}
 use Rattle.sq_replay.specs.RunText.{acts, event_step}
 use Rattle.sq_replay.specs.Runs.{IsMade}
-use Rattle.sq_drafts.proofs.TextLaws.{gives_source}
+use Rattle.sq_conf.proofs.TextLaws.{gives_source}
 use Rattle.sq_replay.proofs.EnteringLaws.{arrives_at, event_front, front_step, named_refused, named_step, named_stops, part_step}
 use Rattle.sq_replay.proofs.OpenedLaws.{opened_refused, opened_stops}
 use Rattle.sq_replay.proofs.lines.run_named.Goals as goal

@@ -3,12 +3,11 @@ ghost use Rattle.std.specs.Prelude.{◌≡◌, ◌+◌, true, false, if◌then�
 
 use sq_base::{Addr, CheckNo, ConnNo, EpochNo, QuestionNo, Request, Text};
 use sq_checks::Record;
-use sq_conn_policy::{Hub, HubFault};
 use sq_model::Stepped;
 use sq_pools::{ChooseFault, Seat, TagSeat};
 use sq_rewrite::{RewriteFault, Rewriting};
 use sq_rules::Config;
-use sq_turns::Counts;
+use sq_turns::{Counts, Hub, HubFault};
 use std::alloc::Global;
 use std::sync::Arc;
 

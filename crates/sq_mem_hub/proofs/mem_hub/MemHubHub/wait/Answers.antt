@@ -1,5 +1,5 @@
 use Rattle.std.proofs.Common.{refl}
-use Rattle.sq_conn_policy.proofs.WorkLaws.{works_then}
+use Rattle.sq_turns.proofs.WorkLaws.{works_then}
 use Rattle.sq_mem_hub.specs.MemHubs.{both_pools}
 use Rattle.sq_mem_hub.proofs.WaitLaws.{waited_then, waited_works}
 use Rattle.sq_mem_hub.proofs.mem_hub.MemHubHub.wait.Goals as goal

@@ -1,5 +1,0 @@
-use Rattle.sq_conn_policy.proofs.StandLaws.{first_told}
-use Rattle.sq_conn_policy.proofs.hub_front.HubFront.new.Goals as goal
-
-pub returns-clause-stands : goal.returns-clause-stands
-returns-clause-stands g c = first_told c.args.conn (g.H.Hub.told c.args.hub) (g.H.Hub.refused c.args.hub)

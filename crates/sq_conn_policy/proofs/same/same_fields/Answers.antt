@@ -1,5 +1,0 @@
-use Rattle.sq_conn_policy.proofs.SameLaws.{decides_as}
-use Rattle.sq_conn_policy.proofs.same.same_fields.Goals as goal
-
-pub returns : goal.returns
-returns c = decides_as c.same_list.result _ _ _ _ c.as_slice.ensures c.as_slice-2.ensures c.same_list.ensures

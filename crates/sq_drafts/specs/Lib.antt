@@ -1,2 +1,0 @@
-pub mod MadeNames
-pub mod Sound

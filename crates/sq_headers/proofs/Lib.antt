@@ -1,3 +1,0 @@
-pub mod AccessLaws
-mod RuleLaws
-mod TableLaws

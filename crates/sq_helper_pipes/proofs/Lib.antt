@@ -1,2 +1,0 @@
-mod QuestionLaws
-mod PipeLaws

@@ -1,2 +1,0 @@
-pub mod PipeViews
-pub mod Pipes

@@ -1,7 +1,0 @@
-use Rattle.std.proofs.Common.{◌≡◌, drop}
-use Rattle.sq_rehearse.specs.Requests.{is_even_before, is_even_key}
-use Rattle.sq_rehearse.proofs.requests.is_even_key.Given as goal
-
--- the bytes that are left say the same, after the one before them
-abbrev pub invariant-loop-byte : goal.invariant-loop-byte
-invariant-loop-byte l = is_even_before l.even (drop l.byte-index l.key) ≡ is_even_key l.key

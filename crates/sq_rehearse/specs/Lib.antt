@@ -1,7 +1,0 @@
--- The definition of a rehearsal: its requests, its driver, and what it comes to.
-pub mod Requests
-pub mod Going
-pub mod Driving
-pub mod Summaries
-pub mod Rehearsals
-pub mod Turns

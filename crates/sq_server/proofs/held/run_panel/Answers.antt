@@ -1,0 +1,31 @@
+use Rattle.std.proofs.Common.{sym, ap, ◌∙◌}
+use Rattle.sq_control.specs.Attending.{FilesSeen, Streams}
+use Rattle.sq_server.proofs.ServiceLaws.{begun_fault, failed_is, served, stopped_is, unbegun_later, unserved_moved}
+use Rattle.sq_server.proofs.held.run_panel.Goals as goal
+
+pub returns-in-Ok-clause-served : goal.returns-in-Ok-clause-served
+returns-in-Ok-clause-served g c =
+    let s = c.in-Ok.served in
+    let is = c.ended_status.ensures in
+    let ran = c.in-Ok.ensures.panel in
+    served _ _ _ _ _ _ _ _ _ _ _ _ s.end s.stopped s.failed ran.0 _ is ran.1.4 ran.2 c.in-Ok.ensures.legal
+    (λ e. c.in-Ok.ensures.stopped (stopped_is s.end s.stopped s.failed (sym is ∙ e)))
+    (λ e. c.in-Ok.ensures.failed (failed_is s.end s.stopped s.failed (sym is ∙ e)))
+    c.in-Ok.ensures.later
+
+pub returns-in-Err-clause-served : goal.returns-in-Err-clause-served
+returns-in-Err-clause-served g c =
+    let same = c.in-Err.ensures.unrun.0 in
+    unserved_moved _ _ _ _ _ _ _ _ _ _ _ _ _ _
+    (ap {B = FilesSeen}
+    (λ p. record { opened = g.W.F.Files.opened p.files.now; faults = g.W.F.Files.faults p.files.now })
+    same)
+    (ap {B = Streams} (λ p. record {
+      left = g.W.C.Source.left p.input.now;
+      input_faults = g.W.C.Source.faults p.input.now;
+      contents = g.W.O.Sink.contents p.out.now;
+      output_faults = g.W.O.Sink.faults p.out.now;
+    }) same)
+    c.unserved_status.ensures.end c.in-Err.ensures.unwritten c.requires.empty
+    (λ e. begun_fault c.in-Err.unserved.fault _ _ (c.unserved_status.ensures.journal e) c.in-Err.ensures.unserved)
+    (unbegun_later c.in-Err.unserved.fault _ _ c.in-Err.ensures.unserved)

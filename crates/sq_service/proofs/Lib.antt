@@ -1,2 +1,0 @@
-mod ServiceLaws
-mod TrueLaws
