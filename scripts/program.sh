@@ -104,8 +104,8 @@ upper_library() {
 
 # Proves the libraries of the program, as many side by side as there are processors, and then the program's own crate as it
 # builds it: the toolchain runs it once, without words, and it then says how it is used. With the program's crate among the others the
-# toolchain would go through it twice, for its proof and for the build, in minutes each time. Standard error says how far it is, and
-# build.log has all.
+# toolchain would go through it twice, for its proof and for the build, in minutes each time. Its allocator keeps what was freed, as
+# in ./test. Standard error says how far it is, and build.log has all.
 build() {
     log=$top/build.log
     if ! command -v rt >/dev/null; then
@@ -117,14 +117,14 @@ build() {
     sources=$(sum_of_sources)
     ended=$(mktemp) || return 1
     (
-        cd "$top/crates/$(upper_library)" && rt all check --jobs "$(nproc)" 2>&1
+        cd "$top/crates/$(upper_library)" && MIMALLOC_PURGE_DELAY=-1 rt all check --jobs "$(nproc)" 2>&1
         echo $? >"$ended"
     ) | tee "$log" | awk -v total="$total" '/^== sq_/ { count++; print "aclproxy: " $2 ", crate " count " of " total; fflush() }' >&2
     status=$(cat "$ended")
     rm -f "$ended"
     if [ "$status" = 0 ]; then
         echo "aclproxy: sq_main, crate $total of $total" >&2
-        case $(cd "$top/crates/sq_main" && rt run 2>>"$log" </dev/null) in
+        case $(cd "$top/crates/sq_main" && MIMALLOC_PURGE_DELAY=-1 rt run 2>>"$log" </dev/null) in
             *usage:*)
                 if [ "$(sum_of_sources)" = "$sources" ]; then
                     record "$built" "$built_record" "$sources"
