@@ -26,6 +26,7 @@ mod reporting;
 mod shelf;
 mod site;
 mod starting;
+mod taking;
 mod turning;
 mod turns;
 

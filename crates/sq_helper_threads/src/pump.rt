@@ -1,5 +1,5 @@
 //! `ServePump`: what performs the acts of a desk.
-ghost use Rattle.std.specs.Prelude.{◌≡◌, ◌++◌, ◌∷◌, ◌<◌, ◌≤◌, [], None, IfNone, IfSome, OnOk};
+ghost use Rattle.std.specs.Prelude.{◌≡◌, ◌++◌, ◌∷◌, ◌<◌, ◌≤◌, [], None, Some, IfNone, IfSome, OnOk};
 ghost use Rattle.sq_helper_threads.specs.Halves.{in_tells};
 ghost use Rattle.sq_calls.specs.Moments.{AtMoment};
 ghost use Rattle.sq_helper_threads.specs.Handing.{HandsDeath, desk_step};
@@ -8,7 +8,7 @@ ghost use Rattle.sq_helper_threads.specs.Turning.{LetsGo};
 
 use crate::halves::{AskerOut, ProcIn};
 use crate::reader::Reader;
-use crate::turns::Left;
+use crate::turns::{Left, Turn};
 use sq_base::{ProcNo, WantOfMemory};
 use sq_calls::HelperCalls;
 use sq_keeper::Pipes;
@@ -20,7 +20,6 @@ use std::sync::Wait;
 /// What performs the acts of a desk: it starts processes, writes questions to them and stops them. For the class by which
 /// names are looked up it spawns nothing: a process of that class is a thread, which reads from a pipe. A contract sees
 /// what its desk and its spawner tell, the halves of processes, and what a turn left.
-#[derive(Drop)]
 pub struct ServePump<'a, S: Spawner, K: HelperCalls, R: Wait> {
     pub(crate) rt: &'a R,
     pub(crate) alloc: Global,
@@ -30,6 +29,22 @@ pub struct ServePump<'a, S: Spawner, K: HelperCalls, R: Wait> {
     pub(crate) readers: Vec<Reader<S::ChildOut>>,
     pub(crate) asking: Vec<Reader<AskerOut<'a, R>>>,
     pub(crate) left: Option<Left<S::ChildOut, ProcIn<'a, S::ChildIn, R>, AskerOut<'a, R>>>,
+}
+
+// Written out, so that the drops of its parts are proved here alone.
+impl<'a, S: Spawner + Drop, K: HelperCalls + Drop, R: Wait> Drop for ServePump<'a, S, K, R> {
+    fn drop(self) {
+        let ServePump {
+            rt: _,
+            alloc: _,
+            spawner: _,
+            desk: _,
+            pipes: _,
+            readers: _,
+            asking: _,
+            left: _,
+        } = self;
+    }
 }
 
 impl<'a, S: Spawner, K: HelperCalls, R: Wait> Model for ServePump<'a, S, K, R> {
@@ -138,6 +153,18 @@ impl<'a, S: Spawner, K: HelperCalls, R: Wait> ServePump<'a, S, K, R> {
             { asking = self.new.asking; asking_room = self.new.asking_room } }
     {
         self.asking.push_reserved(half);
+    }
+
+    // Leaves this for the next turn, since memory is wanting.
+    pub(crate) fn leave(
+        &mut self,
+        left: Left<S::ChildOut, ProcIn<'a, S::ChildIn, R>, AskerOut<'a, R>>,
+    ) -> Turn
+        ensures answer { result ≡ Turn.WantOfMemory }
+        ensures left { self.new ≡ record self.old { left = Some left.entry } }
+    {
+        self.left = Some(left);
+        Turn::WantOfMemory
     }
 }
 

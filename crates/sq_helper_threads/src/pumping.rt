@@ -182,6 +182,46 @@ fn turns<
     B: Ledgers + Send + Sync + 's,
 >(
     scope: &'s Scope<'s, &'e ()>,
+    site: &Site<'s, 'r, R, <H::S as Spawner>::ChildOut, D, B>,
+    resolver: &H::Q,
+    clock: &mut H::C,
+    pump: &mut ServePump<'r, H::S, LockDesk<'s, R, D, B>, R>,
+    keepers: &mut KeeperParts<B>,
+) {
+    for _ in site.rt.forever() {
+        let seen = changes(site.rt, site.room);
+        if let Some(proc) = site.shelf.board.ended(site.rt) {
+            pump.ended(proc);
+            continue;
+        }
+        hand_out::<R, H, D, B>(scope, site, resolver, clock, pump, keepers);
+        match pump.turn(clock) {
+            Turn::Acted(_) => {}
+            Turn::Idle => {
+                if end_unread(pump, clock) {
+                    continue;
+                }
+                if wait_due(site.rt, site.room, seen) {
+                    return;
+                }
+            }
+            Turn::WantOfMemory => clock.pause(),
+            Turn::Ended => return,
+        }
+    }
+}
+
+// Performs turns with a pump over these tools and parts, and lets go of all of them.
+fn run<
+    's,
+    'e,
+    'r: 's,
+    R: Threads + Wait + Sync + 's + 'r,
+    H: HelperTypes + Send + 's,
+    D: DeskCalls + Send + 's,
+    B: Ledgers + Send + Sync + 's,
+>(
+    scope: &'s Scope<'s, &'e ()>,
     site: Site<'s, 'r, R, <H::S as Spawner>::ChildOut, D, B>,
     tools: PumpTools<H>,
     parts: PumpParts<B>,
@@ -194,27 +234,7 @@ fn turns<
     let PumpParts { own, mut keepers } = parts;
     let desk = LockDesk::new(site.rt, site.room, own);
     let mut pump = ServePump::new(site.shelf.rt, site.alloc, spawner, desk);
-    for _ in site.rt.forever() {
-        let seen = changes(site.rt, site.room);
-        if let Some(proc) = site.shelf.board.ended(site.rt) {
-            pump.ended(proc);
-            continue;
-        }
-        hand_out::<R, H, D, B>(scope, &site, &resolver, &clock, &mut pump, &mut keepers);
-        match pump.turn(&mut clock) {
-            Turn::Acted(_) => {}
-            Turn::Idle => {
-                if end_unread(&mut pump, &mut clock) {
-                    continue;
-                }
-                if wait_due(site.rt, site.room, seen) {
-                    return;
-                }
-            }
-            Turn::WantOfMemory => clock.pause(),
-            Turn::Ended => return,
-        }
-    }
+    turns::<R, H, D, B>(scope, &site, &resolver, &mut clock, &mut pump, &mut keepers);
 }
 
 /// Performs the acts of the desk behind its lock until no more is to be done or the desk has stopped, and returns once
@@ -251,7 +271,7 @@ pub fn pump_all<
                 room,
                 shelf,
             };
-            turns::<R, H, D, B>(scope, site, tools, parts)
+            run::<R, H, D, B>(scope, site, tools, parts)
         },
     );
 }

@@ -5,12 +5,12 @@ ghost use Rattle.sq_helper_threads.specs.Turning.{PumpCounts, IsAdmitted, IsTake
 
 use crate::halves::{AskerOut, ProcIn};
 use crate::pump::ServePump;
-use crate::reader::Reader;
+use crate::taking::{let_go, note_start, put_both};
 use crate::turns::{Left, Turn};
 use sq_base::{EpochNo, Moment, ProcNo};
 use sq_calls::{DeskFault, HelperCalls};
 use sq_machine::Act;
-use sq_outside::{Out, Spawner};
+use sq_outside::Spawner;
 use std::sync::Wait;
 
 impl<'a, S: Spawner, K: HelperCalls, R: Wait> ServePump<'a, S, K, R> {
@@ -25,10 +25,7 @@ impl<'a, S: Spawner, K: HelperCalls, R: Wait> ServePump<'a, S, K, R> {
     {
         match self.desk.died(proc, now) {
             Ok(()) | Err(DeskFault::Engine(_)) => Turn::Acted(act),
-            Err(DeskFault::WantOfMemory) => {
-                self.left = Some(Left::Died { proc, act });
-                Turn::WantOfMemory
-            }
+            Err(DeskFault::WantOfMemory) => self.leave(Left::Died { proc, act }),
             Err(_) => Turn::Ended,
         }
     }
@@ -44,10 +41,7 @@ impl<'a, S: Spawner, K: HelperCalls, R: Wait> ServePump<'a, S, K, R> {
     {
         match self.desk.start_failed(self.alloc, epoch, class, now) {
             Ok(()) | Err(DeskFault::Engine(_)) => Turn::Acted(Act::Start { epoch, class }),
-            Err(DeskFault::WantOfMemory) => {
-                self.left = Some(Left::Failed { epoch, class });
-                Turn::WantOfMemory
-            }
+            Err(DeskFault::WantOfMemory) => self.leave(Left::Failed { epoch, class }),
             Err(_) => Turn::Ended,
         }
     }
@@ -58,7 +52,7 @@ impl<'a, S: Spawner, K: HelperCalls, R: Wait> ServePump<'a, S, K, R> {
         epoch: EpochNo,
         class: u32,
         from: S::ChildOut,
-        mut to: ProcIn<'a, S::ChildIn, R>,
+        to: ProcIn<'a, S::ChildIn, R>,
         now: Moment,
     ) -> Turn
         requires { self.old.left ≡ None }
@@ -69,36 +63,31 @@ impl<'a, S: Spawner, K: HelperCalls, R: Wait> ServePump<'a, S, K, R> {
         ensures spawner { SameSpawner self.old self.new }
         ensures counts { PumpCounts self.old self.new }
     {
-        if self.pipes.reserve().is_err() || self.readers.reserve(1).is_err() {
-            self.left = Some(Left::Started {
+        match note_start(
+            &mut self.desk,
+            &mut self.pipes,
+            &mut self.readers,
+            self.alloc,
+            epoch,
+            class,
+            now,
+        ) {
+            Ok(proc) => {
+                put_both(&mut self.pipes, &mut self.readers, proc, from, to);
+                Turn::Acted(Act::Start { epoch, class })
+            }
+            Err(DeskFault::Engine(_)) => {
+                let_go(from, to);
+                Turn::Acted(Act::Start { epoch, class })
+            }
+            Err(DeskFault::WantOfMemory) => self.leave(Left::Started {
                 epoch,
                 class,
                 from,
                 to,
-            });
-            return Turn::WantOfMemory;
-        }
-        match self.desk.started(self.alloc, epoch, class, now) {
-            Ok(proc) => {
-                self.pipes.put(proc, to);
-                self.readers.push_reserved(Reader::new(proc, from));
-                Turn::Acted(Act::Start { epoch, class })
-            }
-            Err(DeskFault::Engine(_)) => {
-                to.close();
-                Turn::Acted(Act::Start { epoch, class })
-            }
-            Err(DeskFault::WantOfMemory) => {
-                self.left = Some(Left::Started {
-                    epoch,
-                    class,
-                    from,
-                    to,
-                });
-                Turn::WantOfMemory
-            }
+            }),
             Err(_) => {
-                to.close();
+                let_go(from, to);
                 Turn::Ended
             }
         }
@@ -110,7 +99,7 @@ impl<'a, S: Spawner, K: HelperCalls, R: Wait> ServePump<'a, S, K, R> {
         epoch: EpochNo,
         class: u32,
         from: AskerOut<'a, R>,
-        mut to: ProcIn<'a, S::ChildIn, R>,
+        to: ProcIn<'a, S::ChildIn, R>,
         now: Moment,
     ) -> Turn
         requires { self.old.left ≡ None }
@@ -121,36 +110,31 @@ impl<'a, S: Spawner, K: HelperCalls, R: Wait> ServePump<'a, S, K, R> {
         ensures spawner { SameSpawner self.old self.new }
         ensures counts { PumpCounts self.old self.new }
     {
-        if self.pipes.reserve().is_err() || self.asking.reserve(1).is_err() {
-            self.left = Some(Left::Asked {
+        match note_start(
+            &mut self.desk,
+            &mut self.pipes,
+            &mut self.asking,
+            self.alloc,
+            epoch,
+            class,
+            now,
+        ) {
+            Ok(proc) => {
+                put_both(&mut self.pipes, &mut self.asking, proc, from, to);
+                Turn::Acted(Act::Start { epoch, class })
+            }
+            Err(DeskFault::Engine(_)) => {
+                let_go(from, to);
+                Turn::Acted(Act::Start { epoch, class })
+            }
+            Err(DeskFault::WantOfMemory) => self.leave(Left::Asked {
                 epoch,
                 class,
                 from,
                 to,
-            });
-            return Turn::WantOfMemory;
-        }
-        match self.desk.started(self.alloc, epoch, class, now) {
-            Ok(proc) => {
-                self.pipes.put(proc, to);
-                self.asking.push_reserved(Reader::new(proc, from));
-                Turn::Acted(Act::Start { epoch, class })
-            }
-            Err(DeskFault::Engine(_)) => {
-                to.close();
-                Turn::Acted(Act::Start { epoch, class })
-            }
-            Err(DeskFault::WantOfMemory) => {
-                self.left = Some(Left::Asked {
-                    epoch,
-                    class,
-                    from,
-                    to,
-                });
-                Turn::WantOfMemory
-            }
+            }),
             Err(_) => {
-                to.close();
+                let_go(from, to);
                 Turn::Ended
             }
         }

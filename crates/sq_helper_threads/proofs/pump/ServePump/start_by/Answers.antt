@@ -1,11 +1,11 @@
 use Rattle.std.proofs.Common.{inl, inr, rules}
 use Rattle.sq_helper_threads.specs.declared.halves.ProcIn.TheVariants.{Child}
-use Rattle.sq_helper_threads.proofs.pump.ServePump.start.Goals as goal
+use Rattle.sq_helper_threads.proofs.pump.ServePump.start_by.Goals as goal
 
 pub returns-in-Ok-clause-starting : goal.returns-in-Ok-clause-starting
 returns-in-Ok-clause-starting g c =
     inr (inr (inr (inl (
-      c.as_slice.result.now,
+      c.args.words.now,
       c.in-Ok.from,
       Child c.in-Ok.to,
       search rules,
