@@ -1,5 +1,5 @@
 //! One link, served by one session.
-ghost use Rattle.std.specs.Prelude.{◌≡◌, ◌+◌, min};
+ghost use Rattle.std.specs.Prelude.{◌≡◌, ◌+◌, ◌-◌, min};
 ghost use Rattle.sq_outside.specs.Causes.{count_limit};
 
 use crate::lock_hub::{LockHub, Shares};
@@ -7,11 +7,11 @@ use crate::rooms::SessionRooms;
 use crate::sums::Sums;
 use sq_base::{Addr, ConnNo};
 use sq_calls::DeskCalls;
-use sq_forward::{Ahead, Duplex, Half};
-use sq_outside::{Listener, raised_by};
+use sq_forward::{Ahead, Duplex, Ends, Half};
+use sq_outside::{Clock, Dialer, Listener};
 use sq_session::{SessionEnd, session};
 use sq_shared::{Ledgers, Refusals, WorkerTypes};
-use sq_turns::HubFront;
+use sq_turns::{Hub, HubFront};
 use std::alloc::Global;
 use std::sync::Wait;
 use std::sync::ledger::Share;
@@ -19,13 +19,19 @@ use std::thread::Threads;
 
 /// A client's link, the address and the port that it has there, and the number of the connection as which it is served.
 #[derive(Drop)]
-pub(crate) struct ClientLink<W: WorkerTypes> {
+pub(crate) struct ClientLink<E: Ends> {
     pub(crate) conn: ConnNo,
-    pub(crate) from: <W::L as Listener>::In,
-    pub(crate) to: <W::L as Listener>::Outgo,
+    pub(crate) from: E::In,
+    pub(crate) to: E::Outgo,
     pub(crate) addr: Addr,
     pub(crate) port: u16,
 }
+
+/// The halves of a link that a worker takes.
+pub(crate) type LinkEnds<W> = (
+    <<W as WorkerTypes>::L as Listener>::In,
+    <<W as WorkerTypes>::L as Listener>::Outgo,
+);
 
 /// Serves a link. Its session begins with shares of its own in which nothing is counted;
 /// what it asked and was granted is added to the sums.
@@ -33,7 +39,7 @@ pub(crate) fn attend<R: Threads + Wait + Sync, W: WorkerTypes, D: DeskCalls, B: 
     rt: &R,
     alloc: Global,
     rooms: &SessionRooms<'_, D, B>,
-    link: ClientLink<W>,
+    link: ClientLink<LinkEnds<W>>,
     dialer: &mut W::D,
     clock: W::C,
     refused: &mut Share<Refusals<B>>,
@@ -48,23 +54,9 @@ pub(crate) fn attend<R: Threads + Wait + Sync, W: WorkerTypes, D: DeskCalls, B: 
     ensures grants { sums.new.grants.parts ≡ 2 }
     ensures refused { refused.new.parts ≡ 2 }
 {
-    let Sums {
-        requests,
-        granted,
-        asked,
-        grants,
-    } = sums;
-    let theirs = Shares {
-        asked: asked.split_off(1, 0),
-        refused: refused.split_off(1, 0),
-        granted: grants.split_off(1, 0),
-    };
+    let theirs = sums.lend(refused);
     let (end, back) = serve_link::<R, W, D, B>(rt, alloc, rooms, link, dialer, clock, theirs);
-    asked.merge(back.asked);
-    refused.merge(back.refused);
-    grants.merge(back.granted);
-    *requests = raised_by(*requests, end.requests);
-    *granted = raised_by(*granted, end.granted);
+    sums.add(refused, back, end.requests, end.granted);
     end
 }
 
@@ -73,7 +65,7 @@ fn serve_link<R: Threads + Wait + Sync, W: WorkerTypes, D: DeskCalls, B: Ledgers
     rt: &R,
     alloc: Global,
     rooms: &SessionRooms<'_, D, B>,
-    link: ClientLink<W>,
+    link: ClientLink<LinkEnds<W>>,
     dialer: &mut W::D,
     clock: W::C,
     shares: Shares<B>,
@@ -86,19 +78,30 @@ fn serve_link<R: Threads + Wait + Sync, W: WorkerTypes, D: DeskCalls, B: Ledgers
     ensures parts { (result.1.asked.parts ≡ 1) × (result.1.refused.parts ≡ 1)
         × (result.1.granted.parts ≡ 1) }
 {
+    let hub = new_hub(rt, rooms, clock, shares);
+    let (end, hub) = serve(rt, alloc, hub, link, dialer);
+    (end, hub.finish())
+}
+
+// A hub with these shares, in which nothing is counted yet.
+fn new_hub<'a, R: Wait, D: DeskCalls, B: Ledgers, C: Clock + Drop>(
+    rt: &'a R,
+    rooms: &SessionRooms<'a, D, B>,
+    clock: C,
+    shares: Shares<B>,
+) -> LockHub<'a, R, D, B, C>
+    requires asked { (shares.asked.parts ≡ 1) × (shares.asked.amount ≡ 0) }
+    requires refused { shares.refused.parts ≡ 1 }
+    requires granted { (shares.granted.parts ≡ 1) × (shares.granted.amount ≡ 0) }
+    ensures asked { result.asked.share.amount ≡ 0 }
+    ensures granted { result.granted.share.amount ≡ 0 }
+{
     let Shares {
         asked,
         refused,
         granted,
     } = shares;
-    let ClientLink {
-        conn,
-        from,
-        to,
-        addr,
-        port,
-    } = link;
-    let hub = LockHub::new(
+    LockHub::new(
         rt,
         rooms.room,
         rooms.bank,
@@ -107,9 +110,29 @@ fn serve_link<R: Threads + Wait + Sync, W: WorkerTypes, D: DeskCalls, B: Ledgers
         asked,
         refused,
         granted,
-    );
+    )
+}
+
+// Serves a link over a hub, which it gives back.
+fn serve<R: Threads + Wait + Sync, H: Hub + Drop, E: Ends, D: Dialer>(
+    rt: &R,
+    alloc: Global,
+    hub: H,
+    link: ClientLink<E>,
+    dialer: &mut D,
+) -> (SessionEnd, H)
+    ensures requests { result.0.requests ≡ H.asked result.1 - H.asked hub }
+    ensures granted { result.0.granted ≡ H.granted result.1 - H.granted hub }
+{
+    let ClientLink {
+        conn,
+        from,
+        to,
+        addr,
+        port,
+    } = link;
     let mut front = HubFront::new(rt, hub, conn);
-    let mut client: Duplex<(<W::L as Listener>::In, <W::L as Listener>::Outgo)> = Duplex {
+    let mut client: Duplex<E> = Duplex {
         from: Half {
             source: from,
             ahead: Ahead::new(alloc),
@@ -117,5 +140,5 @@ fn serve_link<R: Threads + Wait + Sync, W: WorkerTypes, D: DeskCalls, B: Ledgers
         to,
     };
     let end = session(rt, alloc, &mut client, addr, port, &mut front, dialer);
-    (end, front.finish().finish())
+    (end, front.finish())
 }

@@ -8,9 +8,11 @@
 #![tactic(auto)]
 
 mod attending;
+mod hub_waits;
 mod lock_hub;
 mod rooms;
 mod sums;
+mod tallies;
 mod working;
 
 pub use lock_hub::{LockHub, Shares};
