@@ -6,9 +6,9 @@
 //! machine, and a journal that is verified is the text of such a history. `read_service` reads the words of a server,
 //! `open_conf` its configuration, and `finish` writes the last line of any of them.
 //!
-//! `rehearse` is a large valid input that is made from a number, run on the machine, and summed up: it drives the machine
-//! over a configuration, so connections open, requests are asked, their checks go on, helpers are started, questions are
-//! answered, outcomes are taken. It keeps no history, but what it counts is promised over the history that the machine and
+//! `rehearse` runs a rehearsal, a large valid input that is made from a number, on the machine, and sums it up: it drives the
+//! machine over a configuration, so connections open, requests are asked, their checks go on, helpers are started, questions
+//! are answered, outcomes are taken. It keeps no history, but what it counts is promised over the history that the machine and
 //! the driver's definition give.
 #![tactic(auto)]
 

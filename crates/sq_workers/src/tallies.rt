@@ -1,5 +1,6 @@
-//! `Tally`: a hub's share of a book, and what it counts. Where a call adds to the share, its hold is made here: each method is one
-//! hold of the lock of the call of its name, and raises the count by what that gave.
+//! `Tally`: a hub's share of a book, and what it counts. Where a call adds to the share, its hold is made here: `ask`, `grant` and
+//! `grant_tag` are one hold each of the lock of the call of that name, and raise the count by what it gave. Where a grant gave
+//! nothing, another hold asks when the buckets gain.
 ghost use Rattle.std.specs.Prelude.{◌≡◌, ◌<◌, ◌≤◌, min};
 ghost use Rattle.sq_outside.specs.Causes.{count_limit};
 
