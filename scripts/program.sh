@@ -80,61 +80,50 @@ strip_to() {
     return "$status"
 }
 
-# The library right below the program's crate that the most crates stand below.
-upper_library() {
-    awk -F: '
-        /^[a-z]/ { split($1, head, " "); below[head[1]] = $2 }
-        function reached(name, seen,    words, count, i, found) {
-            if (!(name in below) || name in seen) return 0
-            seen[name] = found = 1
-            count = split(below[name], words, " ")
-            for (i = 1; i <= count; i++) found += reached(words[i], seen)
-            return found
-        }
-        END {
-            count = split(below["sq_main"], words, " ")
-            for (i = 1; i <= count; i++) {
-                split("", seen)
-                found = reached(words[i], seen)
-                if (found > most) { most = found; upper = words[i] }
-            }
-            print upper
-        }' "$top/crates.txt"
+# copy_program FOLDER: the crates that the program stands on, without what was made of them and without their edits that must fail, as a
+# repository of their own.
+copy_program() {
+    mkdir -p "$1/.git" "$1/crates" && crate_lines >"$1/crates.txt" && cp "$top/HANDLES" "$1" || return 1
+    crate_lines | while read -r crate _; do
+        mkdir "$1/crates/${crate%:}" || exit 1
+        for part in "$top/crates/${crate%:}"/*; do
+            case ${part##*/} in
+                out | must-fail) ;;
+                *) cp -R "$part" "$1/crates/${crate%:}" || exit 1 ;;
+            esac
+        done
+    done
 }
 
-# Proves the libraries of the program, as many side by side as there are processors, and then the program's own crate as it
-# builds it: the toolchain runs it once, without words, and it then says how it is used. With the program's crate among the others the
-# toolchain would go through it twice, for its proof and for the build, in minutes each time. Its allocator keeps what was freed, as
-# in ./test. Standard error says how far it is, and build.log has all.
-build() {
+# Proves the crates of the program and builds it, by `rt ci` over a copy of them: it begins with those that the most stands behind,
+# proves as many side by side as processors and memory hold, and gives one the processors that no other waits for. What it proved it
+# keeps on the machine, if it can, for the next build and for the gate. The toolchain's allocator keeps what was freed, as in ./test.
+# Standard error says how far it is, and build.log has all.
+build() (
     log=$top/build.log
     if ! command -v rt >/dev/null; then
         echo "aclproxy: there is no toolchain to build the program with: no rt on the PATH" >&2
-        return 1
+        exit 1
     fi
-    total=$(($(crate_lines | wc -l)))
-    echo "aclproxy: proving the $total crates of the program and building it, which takes over an hour on four processors the first time; what the toolchain says goes to $log" >&2
     sources=$(sum_of_sources)
-    ended=$(mktemp) || return 1
-    (
-        cd "$top/crates/$(upper_library)" && MIMALLOC_PURGE_DELAY=-1 rt all check --jobs "$(nproc)" 2>&1
-        echo $? >"$ended"
-    ) | tee "$log" | awk -v total="$total" '/^== sq_/ { count++; print "aclproxy: " $2 ", crate " count " of " total; fflush() }' >&2
-    status=$(cat "$ended")
-    rm -f "$ended"
-    if [ "$status" = 0 ]; then
-        echo "aclproxy: sq_main, crate $total of $total" >&2
-        case $(cd "$top/crates/sq_main" && MIMALLOC_PURGE_DELAY=-1 rt run 2>>"$log" </dev/null) in
-            *usage:*)
-                if [ "$(sum_of_sources)" = "$sources" ]; then
-                    record "$built" "$built_record" "$sources"
-                    return
-                fi
-                echo "aclproxy: the sources changed while the program was built" >>"$log"
-                ;;
-        esac
+    copy=$(mktemp -d) || exit 1
+    trap 'rm -rf "$copy"' EXIT
+    trap 'exit 1' HUP INT TERM
+    copy_program "$copy" || exit 1
+    total=$(($(crate_lines | wc -l)))
+    echo "aclproxy: proving the $total crates of the program and building it, which takes an hour on four processors the first time; what the toolchain says goes to $log" >&2
+    {
+        cd "$copy" && MIMALLOC_PURGE_DELAY=-1 rt ci 2>&1
+        echo $? >"$copy/ended"
+    } </dev/null | tee "$log" | awk -v total="$total" '/^== sq_|^rt: sq_[^ ]* is kept: / { count++; print "aclproxy: " $2 ", crate " count " of " total; fflush() }' >&2
+    if [ "$(cat "$copy/ended")" = 0 ]; then
+        if [ "$(sum_of_sources)" = "$sources" ]; then
+            mkdir -p "${built%/*}" && cp "$copy/crates/sq_main/out/sq_main" "$built.new" && mv "$built.new" "$built" && record "$built" "$built_record" "$sources"
+            exit
+        fi
+        echo "aclproxy: the sources changed while the program was built" >>"$log"
     fi
     tail -n 20 "$log" >&2
     echo "aclproxy: the build failed; $log has all of it" >&2
-    return 1
-}
+    exit 1
+)
