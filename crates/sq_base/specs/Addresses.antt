@@ -19,6 +19,7 @@ pub record Address : Type 0 where
 abbrev pub v4 : ℕ → Address
 v4 n = record { v6 = false; number = n }
 
+-- an IPv6 address by its number
 abbrev pub v6 : ℕ → Address
 v6 n = record { v6 = true; number = n }
 
@@ -31,6 +32,7 @@ abbrev pub is_at_most : Address → Address → Bool
 is_at_most a b = (not a.v6 && b.v6) || (not (a.v6 || b.v6) && nat_le a.number b.number)
     || ((a.v6 && b.v6) && nat_le a.number b.number)
 
+-- whether the byte is `:`
 abbrev pub is_colon : ℕ → Bool
 is_colon b = b == colon
 
@@ -62,6 +64,7 @@ v4_of text = option_map (number_on 256 0) (whole_value (read_ipv4 text))
 unfoldable pub v6_of : List ℕ → Option ℕ
 v6_of text = option_map (number_on 65536 0) (whole_value (read_ipv6 text))
 
+-- the address of a text that is read as IPv4 or as IPv6: IPv4 first
 abbrev pub either_of : Option ℕ → Option ℕ → Option Address
 either_of (Some n) other = Some (v4 n)
 either_of None other = option_map v6 other

@@ -6,6 +6,7 @@ use Rattle.std.specs.Prelude.{ℕ}
 abbrev pub nul : ℕ
 nul = 0
 
+-- the horizontal tab
 abbrev pub tab : ℕ
 tab = 9
 
@@ -17,6 +18,7 @@ lf = 10
 abbrev pub cr : ℕ
 cr = 13
 
+-- the blank
 abbrev pub space : ℕ
 space = 32
 
@@ -100,5 +102,6 @@ letter_r = 114
 abbrev pub close_brace : ℕ
 close_brace = 125
 
+-- the control byte 127
 abbrev pub delete : ℕ
 delete = 127

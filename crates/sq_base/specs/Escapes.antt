@@ -14,6 +14,7 @@ is_escaped b = nat_le b space || nat_le delete b || b == percent || b == greater
 abbrev pub escaped_byte : ℕ → List ℕ
 escaped_byte b = if is_escaped b then percent_encode_byte b else b ∷ []
 
+-- a text as one word: each byte in its escaped form
 unfoldable pub escaped : List ℕ → List ℕ
 escaped bytes = flat_map escaped_byte bytes
 

@@ -11,6 +11,7 @@ use Rattle.sq_base.specs.declared.config_lines.LineFault.{LineFault}
 use Rattle.sq_base.specs.declared.config_lines.LineFault.TheVariants as faults
 use Rattle.sq_base.specs.declared.config_lines.Lexed.{Lexed}
 
+-- whether the byte is LF
 abbrev pub is_lf : ℕ → Bool
 is_lf b = b == lf
 
@@ -22,6 +23,7 @@ ended_lines bytes = take (length (slice_split is_lf bytes) - 1) (slice_split is_
 abbrev pub is_blank : ℕ → Bool
 is_blank b = b == space || b == tab
 
+-- whether there is a byte and it is this one
 abbrev pub is_byte : ℕ → Option ℕ → Bool
 is_byte b None = false
 is_byte b (Some c) = c == b
@@ -30,6 +32,7 @@ is_byte b (Some c) = c == b
 abbrev pub ends_in : ℕ → List ℕ → Bool
 ends_in b line = is_byte b (slice_get line (length line - 1))
 
+-- a line without its last byte
 abbrev pub but_last : List ℕ → List ℕ
 but_last line = take (length line - 1) line
 
@@ -47,6 +50,7 @@ trimmed_lines (l ∷ m ∷ ls) = without_cr l ∷ trimmed_lines (m ∷ ls)
 unfoldable pub file_lines : List ℕ → List (List ℕ)
 file_lines text = trimmed_lines (slice_split is_lf text)
 
+-- whether the text is a word: one that is not empty
 abbrev pub is_word : List ℕ → Bool
 is_word [] = false
 is_word (b ∷ bs) = true
@@ -64,6 +68,7 @@ pieces line = filter is_word (slice_split is_blank line)
 unfoldable pub words_of : List ℕ → List (List ℕ)
 words_of line = take_while (λ word. not (begins_comment word)) (pieces line)
 
+-- whether the first of the words begins a comment
 abbrev pub first_begins : List (List ℕ) → Bool
 first_begins [] = false
 first_begins (word ∷ words) = begins_comment word
@@ -103,6 +108,7 @@ fault_of j =
     if nat_lt conf_line_limit (length j.text) then Some (faults.LineTooLong j.number)
     else (if is_utf8 j.text then None else Some (faults.NotUtf8 j.number))
 
+-- the lines so far, and the fault that ends them, if there is one
 abbrev pub lexed_to : List Line → Option LineFault → Lexed
 lexed_to lines fault = record { lines = lines; fault = fault }
 
@@ -112,6 +118,7 @@ line_before n [] later = later
 line_before n (word ∷ words) later = lexed_to
     ((record { number = n; words = word ∷ words }) ∷ later.lines) later.fault
 
+-- the joined line in front of the later ones, or its fault alone
 abbrev pub lexed_before : Joined → Option LineFault → Lexed → Lexed
 lexed_before j (Some fault) later = lexed_to [] (Some fault)
 lexed_before j None later = line_before j.number (words_of j.text) later

@@ -19,6 +19,7 @@ in_range r a = is_at_most r.first a && is_at_most a r.last
 abbrev pub all_addresses : Range
 all_addresses = record { first = v4 0; last = v6 (2 ^ 128 - 1) }
 
+-- the range of one address
 abbrev pub single : Address → Range
 single a = record { first = a; last = a }
 
@@ -46,6 +47,7 @@ size_by v6 None mask = None
 unfoldable pub block_size : Bool → List ℕ → Option ℕ
 block_size v6 word = size_by v6 (number_of (bits_of v6 + 1) word) (v4_of word)
 
+-- the block that begins with this address, with the size that the word states
 abbrev pub block_of : Option Address → List ℕ → Option Range
 block_of None word = None
 block_of (Some a) word = option_map (λ size. block size a) (block_size a.v6 word)
@@ -66,9 +68,11 @@ range_at text (Some n) to = block_of (address_of (take n text)) (drop (n + 1) te
 range_at text None (Some n) = span_of (address_of (take n text)) (address_of (drop (n + 1) text))
 range_at text None None = option_map single (address_of text)
 
+-- whether the byte is `/`
 abbrev pub is_slash : ℕ → Bool
 is_slash b = b == slash
 
+-- whether the byte is `-`
 abbrev pub is_dash : ℕ → Bool
 is_dash b = b == dash
 

@@ -148,6 +148,7 @@ result_in bytes = after_result (result_of (take_while is_word_byte bytes))
 abbrev pub Answer : Type 0
 Answer = Option ℕ × Reply
 
+-- a reply with its channel
 abbrev pub on_channel : Option ℕ → Option Reply → Option Answer
 on_channel channel reply = option_map (λ r. (channel, r)) reply
 

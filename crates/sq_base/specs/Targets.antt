@@ -23,6 +23,7 @@ pub record Target : Type 0 where
 abbrev pub is_target_byte : ℕ → Bool
 is_target_byte b = is_ascii_graphic b && not (b == hash)
 
+-- whether the byte may stand in a scheme
 abbrev pub is_scheme_byte : ℕ → Bool
 is_scheme_byte b = is_ascii_alphanumeric b || b == plus || b == dash || b == dot
 
@@ -43,6 +44,7 @@ in_authority b = not (b == slash || b == question)
 abbrev pub before_port : ℕ → Bool
 before_port b = not (is_colon b)
 
+-- whether the byte is `]`
 abbrev pub is_bracket : ℕ → Bool
 is_bracket b = b == close_bracket
 
@@ -103,11 +105,13 @@ scheme_port scheme =
     else (if bytes_eq scheme (codes "https") then 443
     else (if bytes_eq scheme (codes "ftp") then 21 else 0))
 
+-- the target of these parts, if there is a port
 abbrev pub with_port : List ℕ → List ℕ → Host → Option ℕ → Option Target
 with_port scheme path h None = None
 with_port scheme path h (Some port) =
     Some (record { scheme = scheme; host = h.name; literal = h.literal; port = port; path = path })
 
+-- the target of a scheme and a path, if there is a host
 abbrev pub with_host : List ℕ → List ℕ → Option Host → Option Target
 with_host scheme path None = None
 with_host scheme path (Some h) = with_port scheme path h (port_after (scheme_port scheme) h.rest)
@@ -130,6 +134,7 @@ absolute_form text =
     if list_all is_target_byte text then with_colon (before_first is_colon text)
     (after_first is_colon text) else None
 
+-- the port of an authority behind its host: `:` and a number
 abbrev pub connect_port : List ℕ → Option ℕ
 connect_port [] = None
 connect_port (b ∷ bs) = if is_colon b then port_of bs else None
@@ -139,6 +144,7 @@ abbrev pub from_one : Option ℕ → Option ℕ
 from_one None = None
 from_one (Some port) = if port == 0 then None else Some port
 
+-- the target of a CONNECT, whose port is at least 1
 abbrev pub connect_host : Option Host → Option Target
 connect_host None = None
 connect_host (Some h) = with_port [] [] h (from_one (connect_port h.rest))

@@ -115,6 +115,7 @@ abbrev pub staged : {A : Type 0} → Result A Status → (A → Output) → Outp
 staged (Ok a) go = go a
 staged (Err end) go = silent end
 
+-- the configuration that was read, or the status that its first fault ends with
 abbrev pub conf_read : Result Configuration ConfError → Result Configuration Status
 conf_read (Ok config) = Ok config
 conf_read (Err e) = Err (ends.Config e.line e.kind)
@@ -134,6 +135,7 @@ abbrev pub parse_over : Option (List ℕ) → List ℕ → Output
 parse_over text conf = staged (conf_stage conf text)
     (λ config. record { text = parse_text config; end = ends.Ok })
 
+-- what `parse` writes of the configuration of this name
 abbrev pub parse_output : Disk → List ℕ → Output
 parse_output disk conf = parse_over (disk conf) conf
 
@@ -150,6 +152,7 @@ replay_over files conf_text script_text conf script =
 abbrev pub shelf_of : Disk → Shelf
 shelf_of disk e = disk
 
+-- what `replay` writes of these two files
 abbrev pub replay_output : Disk → List ℕ → List ℕ → Output
 replay_output disk conf script = replay_over (shelf_of disk) (disk conf) (disk script) conf script
 
@@ -176,6 +179,7 @@ verify_over conf_text journal_text conf journal =
     staged (conf_stage conf conf_text)
     (λ config. staged (script_stage journal journal_text) (journal_output config))
 
+-- what `verify` writes of these two files
 abbrev pub verify_output : Disk → List ℕ → List ℕ → Output
 verify_output disk conf journal = verify_over (disk conf) (disk journal) conf journal
 
@@ -191,6 +195,7 @@ migrated read = record {
   end = migrated_end read.whole (length read.history + 1);
 }
 
+-- what `migrate` writes of the bytes of a journal
 abbrev pub migrated_output : List ℕ → Output
 migrated_output bytes = migrated (read_journal (lines bytes))
 
@@ -198,6 +203,7 @@ migrated_output bytes = migrated (read_journal (lines bytes))
 abbrev pub migrate_over : Option (List ℕ) → List ℕ → Output
 migrate_over text journal = staged (script_stage journal text) migrated_output
 
+-- what `migrate` writes of the file of this name
 abbrev pub migrate_output : Disk → List ℕ → Output
 migrate_output disk journal = migrate_over (disk journal) journal
 
@@ -208,6 +214,7 @@ rehearsed_by count (Ok config) =
     Ok (summary_line (record (rehearsal config count) { asks = count }))
 rehearsed_by count (Err end) = Err end
 
+-- what `rehearse` writes before its last line, over its own configuration
 unfoldable pub rehearsed_stage : ℕ → Result (List ℕ) Status
 rehearsed_stage count = rehearsed_by count (conf_read (conf_result configuration_text))
 
@@ -216,6 +223,7 @@ abbrev pub rehearse_output : ℕ → Output
 rehearse_output count = staged (rehearsed_stage count)
     (λ line. record { text = line; end = ends.Ok })
 
+-- what a command writes; no command is a usage fault
 abbrev pub command_output : Disk → Option Command → Output
 command_output disk None = silent ends.Usage
 command_output disk (Some (Parse conf)) = parse_output disk conf

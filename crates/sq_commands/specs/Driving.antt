@@ -60,6 +60,7 @@ event_at stage.Taking d = Some (event.Take d.at.check)
 event_at stage.Closing d = Some (event.Close d.at.conn)
 event_at stage.Over d = None
 
+-- the event that the driver wants next
 abbrev pub event_of : Driver → Option Event
 event_of d = event_at d.stage d
 
@@ -102,6 +103,7 @@ answered_at stage.Taking answer d = at_stage stage.Closing d
 answered_at stage.Closing answer d = onward d
 answered_at stage.Over answer d = d
 
+-- the driver after the machine's answer to its event
 abbrev pub answered : Told → Driver → Driver
 answered answer d = answered_at d.stage answer d
 

@@ -18,6 +18,7 @@ use Rattle.sq_verify.specs.FindingText.{differs_text}
 use Rattle.sq_commands.specs.declared.ends.Status.{Status}
 use Rattle.sq_commands.specs.declared.ends.Status.TheVariants.{Ok, Usage, Config, Script, ReadFault, WriteFault, Differs, JournalFault, Net, Missing, WantOfMemory}
 
+-- the usage line of the program
 abbrev pub usage_line : List ℕ
 usage_line = codes
     "usage: aclproxy parse CONF | replay CONF SCRIPT | verify CONF JOURNAL | migrate JOURNAL | rehearse N | serve CONF [--port P] [--workers W] [--utc-offset M]"
@@ -94,6 +95,7 @@ status_of Reading = ReadFault
 status_of Writing = WriteFault
 status_of Lacking = WantOfMemory
 
+-- the end is a fault
 abbrev pub IsFaultEnd : End → Type 0
 IsFaultEnd Done = ⊥
 IsFaultEnd Refused = ⊥

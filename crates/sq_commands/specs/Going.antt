@@ -18,6 +18,7 @@ at_stage s d = record d { stage = s }
 abbrev pub check_turns : ℕ
 check_turns = 12
 
+-- a pending check with one turn less to go
 abbrev pub turn_taken : Pending → Pending
 turn_taken p = record p { more = p.more - 1 }
 
@@ -39,6 +40,7 @@ first_driven None d = next_request d
 first_driven (Some check) d = record d
     { stage = stage.Stepping; at = check; left = length d.others }
 
+-- the driver at its first other check
 abbrev pub checks_begun : Driver → Driver
 checks_begun d = first_driven (slice_get d.others 0) (record d { others = drop 1 d.others })
 
@@ -82,6 +84,7 @@ acted_by said.Waits d = left_open d
 acted_by said.Done d =
     if d.in_round || d.at.more == 0 then at_stage stage.Taking d else put_back d
 
+-- the driver after it acted on what a helper said
 abbrev pub acted : Driver → Driver
 acted d = acted_by d.said d
 

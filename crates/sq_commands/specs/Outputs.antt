@@ -54,6 +54,7 @@ IsCutOff Reading text before now bytes =
 IsCutOff Lacking text before now bytes = IsPrefix bytes text
 IsCutOff Writing text before now bytes = IsProperPrefix bytes text
 
+-- the bytes written are the output's, as this end leaves them
 abbrev pub IsOutputAs : End → Output → ℕ → ℕ → Status → List ℕ → Type 0
 IsOutputAs Done output before now end bytes = bytes ≡ output.text
 IsOutputAs Refused output before now end bytes = EndsWith output.text before now end bytes

@@ -18,6 +18,7 @@ use Rattle.sq_commands.specs.Driving.{answered, event_of, first_driver, is_actin
 use Rattle.sq_commands.specs.Going.{acted}
 use Rattle.sq_commands.specs.Summaries.{counted}
 
+-- a text with its line end
 abbrev pub line : List ℕ → List ℕ
 line text = text ++ 10 ∷ []
 

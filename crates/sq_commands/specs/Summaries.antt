@@ -9,6 +9,7 @@ use Rattle.sq_rules.specs.declared.outcomes.Why.TheVariants as why
 use Rattle.sq_machine.specs.Entries.{History}
 use Rattle.sq_commands.specs.declared.summaries.Summary.{Summary}
 
+-- the summary of nothing
 abbrev pub no_count : Summary
 no_count = record { asks = 0; allowed = 0; denied = 0; faults = 0; sends = 0 }
 
@@ -17,10 +18,12 @@ abbrev pub count_denied : Why → Summary → Summary
 count_denied (why.Fault rule acl cause) s = record s { faults = s.faults + 1 }
 count_denied w s = record s { denied = s.denied + 1 }
 
+-- one more outcome: allowed, or denied for this reason
 abbrev pub count_by : Bool → Why → Summary → Summary
 count_by true w s = record s { allowed = s.allowed + 1 }
 count_by false w s = count_denied w s
 
+-- one more outcome
 abbrev pub count_outcome : Outcome → Summary → Summary
 count_outcome o s = count_by o.allow o.why s
 

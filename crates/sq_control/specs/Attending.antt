@@ -32,6 +32,7 @@ pub record DeskSeen : Type 0 where
   pub made : Option ℕ
   pub refused : ℕ
 
+-- what a control saw of its files and of its desk
 pub record Seen : Type 0 where
   pub files : FilesSeen
   pub desk : DeskSeen

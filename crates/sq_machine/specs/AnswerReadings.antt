@@ -14,6 +14,7 @@ use Rattle.sq_machine.specs.Marks.{Marked, Past, Put, entries}
 use Rattle.sq_machine.specs.Questions.{end_at, put_of, unended}
 use Rattle.sq_machine.specs.Checks.{ask_count}
 
+-- the question that a check was told to wait for
 abbrev pub waits_told : Told → Option ℕ
 waits_told (told.Waits q) = Some q
 waits_told answer = None
@@ -45,6 +46,7 @@ answer_by date q (Some p) (Some w) = Some
     })
 answer_by date q put w = None
 
+-- the answer that an event gives to the question that a check waits for
 abbrev pub ended_answer : List Configuration → Past → Option ℕ → ℕ → Event → Told → Option Answer
 ended_answer configs m None date event answer = None
 ended_answer configs m (Some q) date event answer = answer_by date q (put_of m q)

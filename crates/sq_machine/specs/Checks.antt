@@ -26,9 +26,11 @@ abbrev pub epoch_of : Option Asked → ℕ
 epoch_of None = 0
 epoch_of (Some a) = a.epoch
 
+-- the peer that stands for none
 abbrev pub nobody : Peer
 nobody = record { addr = v4 0; port = 0 }
 
+-- the peer, or the one that stands for none
 abbrev pub peer_or_nobody : Option Peer → Peer
 peer_or_nobody None = nobody
 peer_or_nobody (Some p) = p
@@ -52,6 +54,7 @@ asked_by h moment a = record {
   sight = sight_of h moment (peer_or_nobody (peer_at h a.conn)) a.method a.target a.fields;
 }
 
+-- the number, and one more if there is something
 abbrev pub more_if : {A : Type 0} → Option A → ℕ → ℕ
 more_if None n = n
 more_if (Some a) n = suc n
@@ -72,6 +75,7 @@ ask_of [] n = None
 ask_of (e ∷ h) n = option_or
     (option_map (asked_by h e.moment) (numbered n (ask_count h) (asking e.event))) (ask_of h n)
 
+-- the connection of a check
 abbrev pub conn_in : Option Asked → Option ℕ
 conn_in a = option_map (λ x. x.conn) a
 

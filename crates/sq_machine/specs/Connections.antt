@@ -23,6 +23,7 @@ pub record OpenConn : Type 0 where
   pub conn : ℕ
   pub peer : Peer
 
+-- the open connection of this number, if it has a peer
 abbrev pub with_peer : ℕ → Option Peer → List OpenConn
 with_peer c None = []
 with_peer c (Some p) = record { conn = c; peer = p } ∷ []
@@ -33,6 +34,7 @@ newly_open newer None = []
 newly_open newer (Some news) = if list_any (λ c. c == news.conn) newer then []
     else with_peer news.conn news.peer
 
+-- the connections that a newer event named, and the one that this event names
 abbrev pub also_newer : Option ConnNews → List ℕ → List ℕ
 also_newer None newer = newer
 also_newer (Some news) newer = news.conn ∷ newer
@@ -52,6 +54,7 @@ open_conns h = open_besides [] h
 unfoldable pub open_count : History → ℕ
 open_count h = length (open_conns h)
 
+-- whether two addresses are one
 abbrev pub is_address : Address → Address → Bool
 is_address a b = (if a.v6 then b.v6 else (if b.v6 then false else true)) && a.number == b.number
 

@@ -15,6 +15,7 @@ use Rattle.sq_machine.specs.Marks.{Past, entries}
 use Rattle.sq_machine.specs.Numbered.{below, picks}
 use Rattle.sq_machine.specs.Processes.{proc_count, stop_due}
 
+-- the first of a list
 abbrev pub first_of : {A : Type 0} → List A → Option A
 first_of [] = None
 first_of (x ∷ xs) = Some x
@@ -48,13 +49,16 @@ live_places configs h = flat_map (class_ids configs) (live_epochs h)
 abbrev pub stop_of : History → Option Told
 stop_of h = option_map (λ k. told.Stop k) (first_of (picks (stop_due h) (proc_count h)))
 
+-- the answer to an act that sends a question
 abbrev pub sending_told : Sending → Told
 sending_told s = told.Send s.proc s.question s.channel s.text
 
+-- the send that is due of a class of an epoch
 abbrev pub send_at : List Configuration → Past → ClassId → Option Told
 send_at configs m p = option_map sending_told
     (option_and_then send_of (farm_of configs m p.epoch p.class))
 
+-- the start that is due of a class of an epoch
 abbrev pub start_at : List Configuration → Past → ClassId → Option Told
 start_at configs m p =
     option_and_then (λ v. if start_due v then Some

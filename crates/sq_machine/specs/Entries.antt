@@ -30,6 +30,7 @@ must_deny why.Empty = true
 must_deny (why.Fault rule acl cause) = true
 must_deny w = false
 
+-- whether the outcome may be: one whose reason denies does not allow
 abbrev pub is_outcome : Outcome → Bool
 is_outcome o = not (must_deny o.why && o.allow)
 

@@ -53,6 +53,7 @@ abbrev pub taken_check : Event → Option ℕ
 taken_check (Take n) = Some n
 taken_check event = None
 
+-- the check that a step left done
 abbrev pub told_done : ℕ → Told → Option ℕ
 told_done n told.Done = Some n
 told_done n answer = None
@@ -62,6 +63,7 @@ abbrev pub done_check : Event → Told → Option ℕ
 done_check (Step n) answer = told_done n answer
 done_check event answer = None
 
+-- the judgement that a take gave
 abbrev pub told_judged : ℕ → Told → Option Judgement
 told_judged n (told.Judged epoch o) = Some (record { check = n; epoch = epoch; outcome = o })
 told_judged n answer = None
@@ -86,6 +88,7 @@ abbrev pub begins_epoch : Event → Bool
 begins_epoch (Reconfigure text) = true
 begins_epoch event = false
 
+-- whether the event begins a run
 abbrev pub is_begin : Event → Bool
 is_begin (Begin offset) = true
 is_begin event = false

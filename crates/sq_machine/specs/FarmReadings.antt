@@ -19,6 +19,7 @@ use Rattle.sq_machine.specs.Processes.{ended_by, is_at_home, proc_count, runs_at
 use Rattle.sq_machine.specs.Questions.{has_ended, put_count, put_of, sent_to}
 use Rattle.sq_machine.specs.Transcripts.{channels_of}
 
+-- whether the question was put to this class of this epoch
 abbrev pub is_put_for : ℕ → ℕ → Option Put → Bool
 is_put_for e c None = false
 is_put_for e c (Some p) = (p.epoch == e) && (p.class == c)
@@ -28,6 +29,7 @@ abbrev pub is_queued : List Configuration → Past → ℕ → ℕ → ℕ → B
 is_queued configs m e c q = is_put_for e c (put_of m q) && not (is_some (sent_to m q))
     && not (has_ended configs m q)
 
+-- a question of the queue with its text
 abbrev pub waiting_of : Past → ℕ → Waiting
 waiting_of m q = record { question = q; text = option_map_or (λ p. p.key) (put_of m q) [] }
 
@@ -42,6 +44,7 @@ ends_process h e name (Line p bytes) answer = is_at_home h e name p
     && is_some (ended_by h p (Line p bytes) answer)
 ends_process h e name event answer = false
 
+-- whether the event is a failed start of this class of this epoch
 abbrev pub fails_start : ℕ → List ℕ → Event → Bool
 fails_start e name (StartFail epoch class) = (epoch == e) && bytes_eq class name
 fails_start e name event = false

@@ -71,6 +71,7 @@ full v = nat_le (v.queue_size + free_in v.procs + max 1 v.concurrency
 abbrev pub put_in : Waiting → Stock → Stock
 put_in w v = record v { queue = v.queue ++ w ∷ []; held = false }
 
+-- the first of the queue, sent to this process on this channel
 abbrev pub send_by : List Waiting → Option (ℕ × Option ℕ) → Option Sending
 send_by [] t = None
 send_by (w ∷ queue) None = None

@@ -34,6 +34,7 @@ after_took here c None kept = kept
 after_took here c (Some a) kept = if here && (a.class == c)
     && not (is_fault a.what) then to_front a.key kept else kept
 
+-- the cached replies with one more, unless it is a fault
 abbrev pub keep_what : Class → ℕ → List ℕ → ℕ → What → CachedReplies → CachedReplies
 keep_what class q key date w kept = if is_fault w then kept
     else keep class.cache class key (record { what = w; question = q; date = date }) kept
@@ -43,6 +44,7 @@ abbrev pub key_here : ℕ → ℕ → Option Put → Option (List ℕ)
 key_here e c None = None
 key_here e c (Some p) = if is_put_for e c (Some p) then Some p.key else None
 
+-- the same, where class, key and reply are known
 abbrev pub keep_reply : Option Class → ℕ → Option (List ℕ) → ℕ → Option What → CachedReplies
     → CachedReplies
 keep_reply (Some class) q (Some key) date (Some w) kept = keep_what class q key date w kept

@@ -60,6 +60,7 @@ told_of_line configs h k bytes = line_told
     (line_is (channels_of (option_map_or (λ p. channels_named configs p.epoch p.class) (home_of h k)
     0) h k) bytes)
 
+-- what the machine answers to an act: what is due, if anything is
 abbrev pub act_next : Option Told → Next
 act_next None = nothing
 act_next (Some t) = gives t
@@ -83,6 +84,7 @@ abbrev pub grant_next : PoolHistory → ℕ → ℕ → ℕ → Next → Next
 grant_next h now n wanted rest = if in_use h n then gives
     (told.Granted (grant_of h now wanted (seat_of h n))) else rest
 
+-- what the machine answers to a seat that is given up, if it is in use
 abbrev pub leave_next : PoolHistory → ℕ → Next → Next
 leave_next h n rest = if in_use h n then gives told.Fine else rest
 

@@ -49,10 +49,12 @@ abbrev pub record_place : List Answer → Asked → Option Configuration → Sea
 record_place answers a None = Nowhere
 record_place answers a (Some c) = seat_place c a.sight answers
 
+-- the pool event of a record that was taken under this configuration
 abbrev pub sits_in : PoolKind → List Answer → Asked → Option Configuration → PoolEvent
 sits_in kind answers a None = Rests
 sits_in kind answers a (Some c) = sits_at kind a.epoch c a.sight.addr (seat_place c a.sight answers)
 
+-- the pool event of a record that was taken, if there is one
 abbrev pub sits_by : PoolKind → List Configuration → List Answer → Option Asked → PoolEvent
 sits_by kind configs answers None = Rests
 sits_by kind configs answers (Some a) = sits_in kind answers a (config_of configs a.epoch)

@@ -26,9 +26,11 @@ pub record BucketSpot : Type 0 where
   pub limit : Limit
   pub tag : List ℕ
 
+-- the third octet of an IPv4 address
 abbrev pub third_octet : ℕ → ℕ
 third_octet number = number / 256 % 256
 
+-- the last octet of an IPv4 address
 abbrev pub fourth_octet : ℕ → ℕ
 fourth_octet number = number % 256
 
@@ -40,6 +42,7 @@ host_of class place number =
     else (if place == 1 then third_octet number
     else third_octet number * 256 + fourth_octet number))
 
+-- the bucket of this place in front of the others, if the pool limits it
 abbrev pub spot_if : ℕ → ℕ → ℕ → ℕ → Option Limit → List BucketSpot → List BucketSpot
 spot_if pool class place number None rest = rest
 spot_if pool class place number (Some r) rest = record {
@@ -64,9 +67,11 @@ bucket_pairs p = if p.class == 5 then [] else p.pairs
 abbrev pub spots_of : ℕ → Pool → Address → List BucketSpot
 spots_of place p a = spots_from place p.class a.number 0 (bucket_pairs p)
 
+-- the buckets of an address in this pool
 abbrev pub spots_in : List Pool → ℕ → Address → List BucketSpot
 spots_in pools pool a = option_map_or (λ p. spots_of pool p a) (slice_get pools pool) []
 
+-- the bucket of a tag, if the pool limits it
 abbrev pub tag_spot_if : ℕ → List ℕ → Option Limit → List BucketSpot
 tag_spot_if pool tag None = []
 tag_spot_if pool tag (Some r) =
@@ -76,16 +81,20 @@ tag_spot_if pool tag (Some r) =
 abbrev pub tag_spots_of : ℕ → Pool → List ℕ → List BucketSpot
 tag_spots_of place p tag = option_map_or (tag_spot_if place tag) (slice_get p.pairs 0) []
 
+-- the buckets of a tag in this pool
 abbrev pub tag_spots_in : List Pool → ℕ → List ℕ → List BucketSpot
 tag_spots_in pools pool tag = option_map_or (λ p. tag_spots_of pool p tag) (slice_get pools pool) []
 
+-- whether two limits are the same
 abbrev pub same_limit : Limit → Limit → Bool
 same_limit a b = a.restore == b.restore && a.max == b.max
 
+-- whether two buckets are the same one
 abbrev pub is_spot : BucketSpot → BucketSpot → Bool
 is_spot a b = a.pool == b.pool && a.place == b.place && a.host == b.host
     && same_limit a.limit b.limit && bytes_eq a.tag b.tag
 
+-- whether the bucket is among these
 abbrev pub has_spot : List BucketSpot → BucketSpot → Bool
 has_spot spots s = list_any (λ x. is_spot x s) spots
 
@@ -138,6 +147,7 @@ pub data PoolEvent : Type 0 where
   Leaves : ℕ → PoolEvent
   Rests : PoolEvent
 
+-- a moment and what happened to the pools then
 pub record PoolEntry : Type 0 where
   pub moment : ℕ
   pub event : PoolEvent
@@ -151,6 +161,7 @@ abbrev pub latest_in : PoolHistory → ℕ
 latest_in [] = 0
 latest_in (x ∷ h) = x.moment
 
+-- the newest epoch of the pools after an event
 abbrev pub epoch_by : PoolEvent → ℕ → ℕ
 epoch_by (Begins e b) before = e
 epoch_by event before = before
@@ -173,6 +184,7 @@ takes_number (Sits sat b) = true
 takes_number Passes = true
 takes_number event = false
 
+-- the number, and one more where the test holds
 abbrev pub count_if : Bool → ℕ → ℕ
 count_if true n = suc n
 count_if false n = n
@@ -187,6 +199,7 @@ abbrev pub seat_of : PoolHistory → ℕ → Option Sat
 seat_of [] n = None
 seat_of (x ∷ h) n = option_or (numbered n (seat_count h) (sat_at x.event)) (seat_of h n)
 
+-- whether seat n is in use after an event
 abbrev pub in_use_after : ℕ → PoolEvent → Bool → Bool → Bool
 in_use_after n (Leaves k) born before = if k == n then false else before
 in_use_after n event born before = born || before
@@ -197,6 +210,7 @@ in_use [] n = false
 in_use (x ∷ h) n = in_use_after n x.event (is_some (numbered n (seat_count h) (sat_at x.event)))
     (in_use h n)
 
+-- whether the seat belongs to this epoch
 abbrev pub is_of_epoch : ℕ → Option Sat → Bool
 is_of_epoch e None = false
 is_of_epoch e (Some s) = s.epoch == e
@@ -225,6 +239,7 @@ beginning_by (Begins e b) = b
 beginning_by (Sits sat b) = b
 beginning_by event = record { initial = 0; pools = [] }
 
+-- the first moment at which the test held
 abbrev pub made_if : Bool → ℕ → Option ℕ → Option ℕ
 made_if b moment (Some made) = Some made
 made_if true moment None = Some moment
@@ -252,6 +267,7 @@ seconds_between (Some made) before now = second_of made now - second_of made bef
 
 -- buckets
 
+-- whether the seat has this bucket in this epoch
 abbrev pub names_spot : ℕ → BucketSpot → Option Sat → Bool
 names_spot e s None = false
 names_spot e s (Some sat) = sat.epoch == e && has_spot sat.spots s
@@ -262,6 +278,7 @@ abbrev pub opens : PoolEntry → PoolHistory → ℕ → BucketSpot → Bool
 opens x h e s = (is_none (made_of h e) && is_aggregate (beginning_by x.event).pools s)
     || names_spot e s (sat_at x.event)
 
+-- the first tally that was opened
 abbrev pub opened_if : Bool → Tally → Option Tally → Option Tally
 opened_if b new (Some t) = Some t
 opened_if true new None = Some new
@@ -288,6 +305,7 @@ tally_of (x ∷ h) e s =
 
 -- what a grant answers
 
+-- the level of a bucket; 0 if it was never opened
 abbrev pub level_of : Option Tally → ℕ
 level_of None = 0
 level_of (Some t) = t.level
@@ -298,6 +316,7 @@ least_level h e now [] wanted = wanted
 least_level h e now (s ∷ spots) wanted =
     least_level h e now spots (min wanted (level_of (until h e s now (tally_of h e s))))
 
+-- what a grant of so much gives on this seat: the least level of its buckets at most
 abbrev pub grant_of : PoolHistory → ℕ → ℕ → Option Sat → ℕ
 grant_of h now wanted None = 0
 grant_of h now wanted (Some sat) = least_level h sat.epoch now sat.spots wanted

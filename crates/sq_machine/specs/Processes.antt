@@ -39,6 +39,7 @@ line_end told.Bad = Some cause.BadReply
 line_end told.Stray = Some cause.Stray
 line_end answer = None
 
+-- the value where the test holds
 abbrev pub if_here : {A : Type 0} → Bool → Option A → Option A
 if_here true o = o
 if_here false o = None
@@ -82,6 +83,7 @@ abbrev pub stop_told : ℕ → Told → Bool
 stop_told k (told.Stop p) = k == p
 stop_told k answer = false
 
+-- whether the event stops process k
 abbrev pub stops : ℕ → Event → Told → Bool
 stops k Act answer = stop_told k answer
 stops k event answer = false
@@ -111,6 +113,7 @@ abbrev pub start_told : ℕ → List ℕ → Told → Bool
 start_told e name (told.Start epoch class) = (epoch == e) && bytes_eq class name
 start_told e name answer = false
 
+-- whether the event starts a process of this class of this epoch
 abbrev pub is_start : ℕ → List ℕ → Event → Told → Bool
 is_start e name Act answer = start_told e name answer
 is_start e name event answer = false
@@ -127,6 +130,7 @@ settles_start e name (Started epoch class) = (epoch == e) && bytes_eq class name
 settles_start e name (StartFail epoch class) = (epoch == e) && bytes_eq class name
 settles_start e name event = false
 
+-- how many starts of this class of this epoch have come or failed
 abbrev pub settled_starts : History → ℕ → List ℕ → ℕ
 settled_starts [] e name = 0
 settled_starts (x ∷ h) e name = if settles_start e name x.event then suc (settled_starts h e name)

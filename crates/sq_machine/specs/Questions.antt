@@ -36,10 +36,12 @@ abbrev pub put_of : Past → ℕ → Option Put
 put_of [] q = None
 put_of (x ∷ m) q = option_or (numbered q (put_count m) x.put) (put_of m q)
 
+-- the process to which the answer of an act sends question q
 abbrev pub send_told : Past → ℕ → Told → Option ℕ
 send_told m q (told.Send p r channel key) = if_here ((q == r) && nat_le q (put_count m)) (Some p)
 send_told m q answer = None
 
+-- the process to which the event sends question q
 abbrev pub sends : Past → ℕ → Event → Told → Option ℕ
 sends m q Act answer = send_told m q answer
 sends m q event answer = None
@@ -55,6 +57,7 @@ what_by word.Yes pairs = what.Yes pairs
 what_by word.No pairs = what.No pairs
 what_by word.Broken pairs = what.Fault cause.Bh
 
+-- what a reply says
 abbrev pub what_of : Reply → What
 what_of reply = what_by reply.word reply.pairs
 
@@ -120,6 +123,7 @@ question_end configs [] q = None
 question_end configs (x ∷ m) q = first_end x.entry.moment
     (end_at configs m q x.entry.event x.entry.answer) (question_end configs m q)
 
+-- whether question q has ended
 abbrev pub has_ended : List Configuration → Past → ℕ → Bool
 has_ended configs m q = is_some (question_end configs m q)
 
@@ -128,6 +132,7 @@ abbrev pub unended : List Configuration → Past → Option ℕ → Option ℕ
 unended configs m None = None
 unended configs m (Some q) = if has_ended configs m q then None else Some q
 
+-- whether the question was put for this class, epoch and key
 abbrev pub put_is : ℕ → ℕ → List ℕ → Option Put → Bool
 put_is e c key None = false
 put_is e c key (Some p) = (p.epoch == e) && (p.class == c) && bytes_eq p.key key

@@ -5,6 +5,7 @@ use Rattle.std.specs.declared.option.Option.{Option}
 use Rattle.sq_machine.specs.Entries.{History}
 use Rattle.sq_machine.specs.Events.{begins_epoch, begun_offset}
 
+-- the zone's offset after an event that may state one
 abbrev pub offset_after : Option ℤ → ℤ → ℤ
 offset_after None before = before
 offset_after (Some offset) before = offset
@@ -23,6 +24,7 @@ latest (e ∷ h) = e.moment
 abbrev pub counted_moment : History → ℕ → ℕ
 counted_moment h moment = max moment (latest h)
 
+-- the current epoch after an event that may make a new one
 abbrev pub epoch_after : Bool → ℕ → ℕ
 epoch_after true e = suc e
 epoch_after false e = e

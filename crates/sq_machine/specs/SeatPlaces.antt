@@ -16,10 +16,12 @@ use Rattle.sq_machine.specs.declared.places.SeatPlace.TheVariants.{Nowhere, ByAd
 abbrev pub has_tags : List Pool → ℕ → Bool
 has_tags pools pool = option_map_or (λ p. p.class == 5) (slice_get pools pool) false
 
+-- the place of a record in a pool of tags, if it has a tag
 abbrev pub place_by_tag : ℕ → Option (List ℕ) → SeatPlace
 place_by_tag pool None = Nowhere
 place_by_tag pool (Some tag) = ByTag pool tag
 
+-- the place of a record in the pool that takes it
 abbrev pub place_in : List Pool → Option (List ℕ) → Option ℕ → SeatPlace
 place_in pools tag None = Nowhere
 place_in pools tag (Some pool) = if has_tags pools pool then place_by_tag pool tag

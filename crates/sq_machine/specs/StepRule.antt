@@ -91,6 +91,7 @@ says_asked name p now None false count = record {
   took = None;
 }
 
+-- what a step says where the cached reply is fresh, and where there is none
 abbrev pub says_fresh : Class → Put → ℕ → Option CachedReply → Option ℕ → Bool → ℕ → StepSays
 says_fresh class p now (Some v) pending full count = says_kept class.name p v now
     (refresh (is_due class v now) pending full p)
@@ -108,6 +109,7 @@ abbrev pub class_of_body : Body → Option ℕ
 class_of_body (body.External class arguments) = Some class
 class_of_body b = None
 
+-- the class of an external acl by its place
 abbrev pub class_of_acl : List Acl → ℕ → Option ℕ
 class_of_acl acls place = option_and_then (λ a. class_of_body a.body) (slice_get acls place)
 
@@ -116,23 +118,27 @@ abbrev pub value_over : List Configuration → Asked → List Answer → Value
 value_over configs a answers = option_map_or (λ config. verdict_over answers config a.sight)
     (config_of configs a.epoch) (value.Verdict (record { allow = false; why = why.Empty }))
 
+-- what a step says that needs an answer of this class
 abbrev pub says_of_class : List Configuration → Past → ℕ → ℕ → List ℕ → ℕ → Option Class → StepSays
 says_of_class configs m e c key now None = says_done
 says_of_class configs m e c key now (Some class) =
     says_need class (record { epoch = e; class = c; key = key }) now (kept configs m e c)
     (pending configs m e c key) (full (farm_with configs m e c class)) (put_count m)
 
+-- what a step says that needs an answer of the class at this place
 abbrev pub says_at_place : List Configuration → Past → ℕ → List ℕ → ℕ → Option ℕ → StepSays
 says_at_place configs m e key now None = says_done
 says_at_place configs m e key now (Some c) = says_of_class configs m e c key now
     (class_at configs e c)
 
+-- what a step says of a verdict, or of a needed answer
 abbrev pub says_value : List Configuration → Past → ℕ → ℕ → Value → StepSays
 says_value configs m e now (value.Verdict o) = says_done
 says_value configs m e now (value.Need acl key) =
     says_at_place configs m e key now
     (option_and_then (λ config. class_of_acl config.acls acl) (config_of configs e))
 
+-- what a step says of a check, if it is open
 abbrev pub says_asked_of : List Configuration → Past → ℕ → List Answer → Option Asked → StepSays
 says_asked_of configs m now answers None = says_done
 says_asked_of configs m now answers (Some a) = says_value configs m a.epoch now

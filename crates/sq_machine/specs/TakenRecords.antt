@@ -19,10 +19,12 @@ pub record TakenCheck : Type 0 where
   pub asked : Asked
   pub allows : Bool
 
+-- the check that a take ended, with its verdict
 abbrev pub taking : Told → Option Asked → Option TakenCheck
 taking (told.Judged epoch o) (Some a) = Some (record { asked = a; allows = o.allow })
 taking answer a = None
 
+-- the last check that was taken on connection c, after an event
 abbrev pub taken_after : History → ℕ → Event → Told → Option TakenCheck → Option TakenCheck
 taken_after h c (Take n) answer before = if is_number c (conn_of h n) then taking answer
     (ask_of h n) else before
@@ -34,6 +36,7 @@ abbrev pub taken_of : History → ℕ → Option TakenCheck
 taken_of [] c = None
 taken_of (e ∷ h) c = taken_after h c e.event e.answer (taken_of h c)
 
+-- the check, if it was allowed
 abbrev pub if_allowed : Option TakenCheck → Option Asked
 if_allowed None = None
 if_allowed (Some t) = if t.allows then Some t.asked else None
@@ -42,6 +45,7 @@ if_allowed (Some t) = if t.allows then Some t.asked else None
 abbrev pub allowed_of : History → ℕ → Option Asked
 allowed_of h c = if_allowed (taken_of h c)
 
+-- the answers of the last check that was taken on connection c, after an event
 abbrev pub answers_after : List Configuration → Past → ℕ → Event → List Answer → List Answer
 answers_after configs m c (Take n) before = if is_number c (conn_of (entries m) n) then answers
     configs m n else before

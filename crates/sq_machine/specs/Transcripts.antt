@@ -27,6 +27,7 @@ pub data Use : Type 0 where
   clears : Use
   keeps : Use
 
+-- what the answer of an act does to a channel: a sent question takes it
 abbrev pub use_told : History → ℕ → Option ℕ → Told → Use
 use_told h k channel (told.Send p q c key) = if (k == p) && nat_le k (proc_count h)
     && same_channel c channel then puts q else keeps
@@ -37,12 +38,14 @@ abbrev pub stands_on : Option Answer → Option ℕ → Bool
 stands_on None channel = false
 stands_on (Some a) channel = same_channel a.0 channel
 
+-- what an event does to a channel: a send takes it, and a reply frees it
 abbrev pub use_of : Bool → History → ℕ → Option ℕ → Event → Told → Use
 use_of numbered h k channel Act answer = use_told h k channel answer
 use_of numbered h k channel (Line p bytes) answer = if (k == p) && nat_le k (proc_count h)
     && stands_on (reply_of numbered bytes) channel then clears else keeps
 use_of numbered h k channel event answer = keeps
 
+-- the question on a channel after such a use
 abbrev pub after_use : Use → Option ℕ → Option ℕ
 after_use (puts q) before = Some q
 after_use clears before = None
@@ -70,14 +73,17 @@ pub data LineIs : Type 0 where
   Outside : LineIs
   OnFree : LineIs
 
+-- what a reply is on a channel: an answer to its question, or one that nobody asked for
 abbrev pub line_at : Option ℕ → Reply → LineIs
 line_at None reply = OnFree
 line_at (Some q) reply = ReplyTo q reply
 
+-- what a line is that reads as this answer, or as none
 abbrev pub line_by : Channels → Option Answer → LineIs
 line_by p None = Outside
 line_by p (Some a) = line_at (slot_of p.slots a.0) a.1
 
+-- what a line of a process is, by its channels
 unfoldable pub line_is : Channels → List ℕ → LineIs
 line_is p bytes = line_by p (reply_of p.numbered bytes)
 

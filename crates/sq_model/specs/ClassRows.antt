@@ -33,6 +33,7 @@ pub record ClassRow : Type 0 where
 abbrev pub is_asked : List Configuration → Past → ℕ → ℕ → ℕ → Bool
 is_asked configs m e c q = is_put_for e c (put_of m q) && not (has_ended configs m q)
 
+-- an open question as a row, with its key
 abbrev pub lookup_of : Past → ℕ → LookupRow
 lookup_of m q = record { question = q; key = option_map_or (λ p. p.key) (put_of m q) [] }
 

@@ -48,6 +48,7 @@ state_at configs m = record {
 abbrev pub dues_of_stock : Stock → ℕ
 dues_of_stock v = length v.queue + (v.children_max - (length v.procs + v.starting))
 
+-- the most acts that are due of a class
 abbrev pub dues_of_row : Option ClassRow → ℕ
 dues_of_row None = 0
 dues_of_row (Some r) = dues_of_stock r.stock

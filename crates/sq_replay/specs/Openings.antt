@@ -26,6 +26,7 @@ abbrev pub name_of : Event → Option (List ℕ)
 name_of (Reconfigure name) = Some name
 name_of event = None
 
+-- the file that a line names
 abbrev pub name_in : Option (ℕ × Event) → Option (List ℕ)
 name_in None = None
 name_in (Some (now, event)) = name_of event
@@ -34,6 +35,7 @@ name_in (Some (now, event)) = name_of event
 abbrev pub name_at : SourceLine → Option (List ℕ)
 name_at l = name_in (stated l.bytes)
 
+-- a name in front of the others, if there is one
 abbrev pub before_names : Option (List ℕ) → List (List ℕ) → List (List ℕ)
 before_names None names = names
 before_names (Some name) names = name ∷ names
@@ -59,6 +61,7 @@ opened_names (o ∷ more) = opened_names more ++ o.name ∷ []
 abbrev pub Gives : Opening → Type 0
 Gives o = (config : Configuration) × (conf_result o.text ≡ Ok config)
 
+-- all of these openings gave a source
 abbrev pub AllGive : List Opening → Type 0
 AllGive [] = Unit {0}
 AllGive (o ∷ more) = Gives o × AllGive more

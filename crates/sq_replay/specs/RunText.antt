@@ -99,6 +99,7 @@ event_step files configs h number now (Reconfigure name) = reconfigured configs 
     (files (current h) name)
 event_step files configs h number now event = asked_next configs h number now event
 
+-- the history after the event that a line states; a line that states none is a fault
 abbrev pub stated_step : Shelf → List Configuration → History → ℕ → Option (ℕ × Event)
     → Result History RunEnd
 stated_step files configs h number None = Err (ends.Script number)
@@ -111,6 +112,7 @@ line_step files configs h number place l =
     if is_readable place l then stated_step files configs h number (stated l.bytes)
     else Err (ends.Script number)
 
+-- the run that goes on from a history, or has ended there
 abbrev pub run_on : History → Result History RunEnd → (History → ScriptRun) → ScriptRun
 run_on h (Ok t) go = go t
 run_on h (Err end) go = record { history = h; end = end }
@@ -144,6 +146,7 @@ run_first files configs place ls now (Begin offset) = run_lines files configs
 run_first files configs place ls now Act = stopped (ends.Script 1)
 run_first files configs place ls now event = run_from files configs place ls now event
 
+-- the run whose first line states this event; a line that states none is a fault
 abbrev pub run_stated : Shelf → List Configuration → ℕ → List SourceLine → Option (ℕ × Event)
     → ScriptRun
 run_stated files configs place ls None = stopped (ends.Script 1)
@@ -162,14 +165,17 @@ abbrev pub with_config : Result Configuration ConfError → List Configuration �
 with_config (Ok config) more = config ∷ more
 with_config (Err e) more = []
 
+-- the configurations, with that of a file's text in front, if there is a file
 abbrev pub with_text : Option (List ℕ) → List Configuration → List Configuration
 with_text None more = []
 with_text (Some text) more = with_config (conf_result text) more
 
+-- the configurations with the one in front that an event names
 abbrev pub named_by : Shelf → Event → (ℕ → List Configuration) → ℕ → List Configuration
 named_by files (Reconfigure name) more e = with_text (files e name) (more (suc e))
 named_by files event more e = more e
 
+-- the configurations with the one in front that a line names
 abbrev pub named_in : Shelf → Option (ℕ × Event) → (ℕ → List Configuration) → ℕ → List Configuration
 named_in files None more e = more e
 named_in files (Some (now, event)) more e = named_by files event more e

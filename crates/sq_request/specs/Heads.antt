@@ -26,6 +26,7 @@ field_of f = record { name = f.name; value = field_value f }
 abbrev pub fields_of : RequestHead → List Field
 fields_of h = map field_of h.fields
 
+-- the request of these parts and this target
 abbrev pub at_target : List ℕ → List ℕ → ℕ → List Field → Target → HttpRequest
 at_target method target minor fields t =
     record {

@@ -18,6 +18,7 @@ is_written_target target = nat_lt 0 (length target)
 abbrev pub is_written_value : List ℕ → Bool
 is_written_value value = list_all is_value_byte value && bytes_eq (trim_ows value) value
 
+-- whether a field can stand in a head
 abbrev pub is_written_field : Field → Bool
 is_written_field f = is_token f.name && is_written_value f.value
 

@@ -73,9 +73,11 @@ type_place type.External = 9
 type_place type.AnyOf = 10
 type_place type.AllOf = 11
 
+-- whether two types are the same
 abbrev pub same_type : AclType → AclType → Bool
 same_type a b = type_place a == type_place b
 
+-- whether an acl that may be there already has this type
 abbrev pub is_of_type : AclType → Option AclType → Bool
 is_of_type type None = true
 is_of_type type (Some other) = same_type other type
@@ -94,6 +96,7 @@ abbrev pub term_name : List ℕ → List ℕ
 term_name [] = []
 term_name (b ∷ bs) = if b == bang then bs else (b ∷ bs)
 
+-- the term over the acl at this place; a name without a place is undefined
 abbrev pub term_from : Bool → Option ℕ → Result Term Kind
 term_from negated None = Err UndefinedAcl
 term_from negated (Some place) = Ok (record { acl = place; negated = negated })
@@ -138,6 +141,7 @@ abbrev pub with_values : List ℕ → Option ℕ → Drafts → Leaf → Drafts
 with_values name None d l = with_acl_more name (body.Leaf l) d
 with_values name (Some place) d l = with_body place (with_leaf l) d
 
+-- the acls after a line that gives these values to a leaf acl
 abbrev pub leaf_line : List ℕ → Option ℕ → Drafts → Result Leaf Kind → Result Drafts Kind
 leaf_line name place d values = values >>= λ l. Ok (with_values name place d l)
 

@@ -44,6 +44,7 @@ ports_from a b = None
 abbrev pub port_number : List ℕ → Option ℕ
 port_number w = number_of port_limit w
 
+-- the ports that a word states: one, or a range `FIRST-LAST`
 unfoldable pub ports_of : List ℕ → Option PortRange
 ports_of w =
     if list_any is_dash w then ports_from (port_number (before_first is_dash w))
@@ -62,6 +63,7 @@ method_value w = unless (is_token w) BadValue (Ok w)
 abbrev pub maxconn_value : List ℕ → Result ℕ Kind
 maxconn_value w = needed BadValue (number_of maxconn_limit w)
 
+-- the one number of a maxconn line
 unfoldable pub maxconn_values : WordList → Result (List ℕ) Kind
 maxconn_values ws = do
   first ← word ws
@@ -100,6 +102,7 @@ days_of (b ∷ bs) = days_on 0 (b ∷ bs)
 unfoldable pub short_number : ℕ → List ℕ → Option ℕ
 short_number most w = if nat_le (length w) 2 then digits_of most w else None
 
+-- the minute of the day, up to its end
 abbrev pub minute_at : Option ℕ → Option ℕ → Option ℕ
 minute_at (Some h) (Some m) = if nat_le (h * 60 + m) day_minutes then Some (h * 60 + m) else None
 minute_at h m = None
@@ -140,6 +143,7 @@ time_value ws = do
   first ← word ws
   by_first (days_of first.0) first.0 first.1
 
+-- the one span of a time line
 abbrev pub time_values : WordList → Result (List Hour) Kind
 time_values ws = time_value ws >>= λ p. Ok (p ∷ [])
 

@@ -13,6 +13,7 @@ use Rattle.sq_rules.specs.declared.configs.Body.{Body}
 use Rattle.sq_rules.specs.declared.configs.Body.TheVariants as body
 use Rattle.sq_rules.specs.declared.configs.Term.{Term}
 
+-- the type of an acl, if it is there
 abbrev pub type_of_acl : Option Acl → Option AclType
 type_of_acl None = None
 type_of_acl (Some a) = Some (type_of_body a.body)

@@ -56,6 +56,7 @@ default_class =
       words = [];
     }
 
+-- whether the byte is `=`
 abbrev pub is_equals : ℕ → Bool
 is_equals b = b == equals
 
@@ -156,6 +157,7 @@ token_step s w = do
   unless (nat_lt (length s.format) token_limit) TooMany
       (Ok (record s { format = s.format ++ token ∷ [] }))
 
+-- whether the word has a `=`
 abbrev pub has_equals : List ℕ → Bool
 has_equals w = list_any is_equals w
 
@@ -207,10 +209,12 @@ abbrev pub with_notice : ℕ → List ℕ → Drafts → Drafts
 with_notice line directive d = record d
     { notices = d.notices ++ (record { line = line; directive = directive }) ∷ [] }
 
+-- one more notice where the test holds
 abbrev pub with_notice_if : Bool → ℕ → List ℕ → Drafts → Drafts
 with_notice_if true line directive d = with_notice line directive d
 with_notice_if false line directive d = d
 
+-- one more class of helpers
 abbrev pub with_class : Class → Drafts → Drafts
 with_class c d = record d { classes = d.classes ++ c ∷ [] }
 

@@ -28,6 +28,7 @@ abbrev pub from_least : ℕ → Option ℕ → Option ℕ
 from_least least None = None
 from_least least (Some n) = if nat_le least n then Some n else None
 
+-- the number that a word states, from the least to the most
 unfoldable pub number_between : ℕ → ℕ → List ℕ → Result ℕ Kind
 number_between least most w = needed BadNumber (from_least least (digits_of most w))
 

@@ -24,6 +24,7 @@ is_field_name w = is_token w && not (str_eq_ignore_ascii_case w (codes "other"))
 unfoldable pub header_name : List ℕ → Result (List ℕ) Kind
 header_name w = unless (is_field_name w) BadValue (Ok (str_to_ascii_lowercase w))
 
+-- one more rule of a header's field
 abbrev pub with_header : Bool → List ℕ → Rule → Drafts → Drafts
 with_header reply name r d = record d
     { headers = d.headers ++ (record { reply = reply; name = name; rule = r }) ∷ [] }

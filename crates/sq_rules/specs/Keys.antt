@@ -73,6 +73,7 @@ format_text name arguments s None = []
 format_text name arguments s (Some k) = join_with_byte 32
     (map (token_text name arguments s) k.format)
 
+-- the key of an external acl's body; other bodies have none
 abbrev pub body_key : Configuration → Sight → List ℕ → Body → List ℕ
 body_key c s name (body.Leaf l) = []
 body_key c s name (body.External class arguments) = format_text name arguments s
@@ -80,6 +81,7 @@ body_key c s name (body.External class arguments) = format_text name arguments s
 body_key c s name (body.AnyOf terms) = []
 body_key c s name (body.AllOf lines) = []
 
+-- the key of an acl, if it is there
 abbrev pub acl_key : Configuration → Sight → Option Acl → List ℕ
 acl_key c s None = []
 acl_key c s (Some a) = body_key c s a.name a.body

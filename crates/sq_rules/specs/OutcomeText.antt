@@ -8,6 +8,7 @@ use Rattle.sq_rules.specs.declared.outcomes.Outcome.{Outcome}
 use Rattle.sq_rules.specs.declared.outcomes.Why.{Why}
 use Rattle.sq_rules.specs.declared.outcomes.Why.TheVariants as why
 
+-- the word of a fault's cause
 abbrev pub cause_word : Cause → List ℕ
 cause_word cause.Bh = codes "Bh"
 cause_word cause.BadReply = codes "BadReply"
@@ -17,6 +18,7 @@ cause_word cause.NoHelper = codes "NoHelper"
 cause_word cause.QueueFull = codes "QueueFull"
 cause_word cause.KeyTooLong = codes "KeyTooLong"
 
+-- the words of an outcome's reason
 abbrev pub why_words : Why → List (List ℕ)
 why_words (why.Rule number) = codes "rule" ∷ decimal number ∷ []
 why_words why.Default = codes "default" ∷ []
@@ -24,6 +26,7 @@ why_words why.Empty = codes "empty" ∷ []
 why_words (why.Fault rule acl cause) = codes "fault" ∷ decimal rule ∷ text_word acl
     ∷ cause_word cause ∷ []
 
+-- the word of an action
 abbrev pub action_word : Bool → List ℕ
 action_word allow = if allow then codes "allowed" else codes "denied"
 

@@ -32,6 +32,7 @@ abbrev pub is_found_by : Option (Nested Re × Names) → List ℕ → Bool
 is_found_by None text = false
 is_found_by (Some r) text = is_some (find r.0.value text 0)
 
+-- whether the pattern is found in the text
 unfoldable pub is_found : Find → List ℕ → Bool
 is_found f text = is_found_by (reading f) text
 

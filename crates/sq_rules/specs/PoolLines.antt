@@ -41,6 +41,7 @@ place_in count (Some n) = unless (nat_le 1 n && nat_le n count) PoolOutOfRange (
 unfoldable pub pool_place : ℕ → List ℕ → Result ℕ Kind
 pool_place count w = unless (is_digits w) BadNumber (place_in count (digits_of pool_limit w))
 
+-- a pool with its class
 abbrev pub with_pool_class : ℕ → PoolDraft → PoolDraft
 with_pool_class class p = record p { class = Some class }
 
@@ -62,6 +63,7 @@ unfoldable pub fast_term : List Acl → List ℕ → Result Term Kind
 fast_term acls w = known_term acls w >>= λ t. unless
     (not (slice_index_or (slow_ones acls) t.acl false)) SlowInFastList (Ok t)
 
+-- a pool with one more access rule
 abbrev pub with_pool_rule : Rule → PoolDraft → PoolDraft
 with_pool_rule r p = record p { lists = p.lists ++ r ∷ [] }
 
@@ -75,6 +77,7 @@ pool_access_line d ws = do
   terms ← some_of (fast_term d.acls) second.1
   Ok (with_pool place (with_pool_rule (record { allow = allow; terms = terms })) d)
 
+-- the class of a pool that lacks its limits; one without a class, or with limits, is a fault
 abbrev pub class_wanted : Option ℕ → Option (List (Option Limit)) → Result ℕ Kind
 class_wanted None pairs = Err BadValue
 class_wanted (Some class) (Some pairs) = Err BadValue
@@ -94,6 +97,7 @@ unfoldable pub limit_pairs_of : ℕ → WordList → Result (List (Option Limit)
 limit_pairs_of count ws = over (pair_step count) [] ws >>= λ pairs. unless (length pairs == count)
     MissingWord (Ok pairs)
 
+-- a pool with its limits
 abbrev pub with_limits : List (Option Limit) → PoolDraft → PoolDraft
 with_limits pairs p = record p { pairs = Some pairs }
 
@@ -106,6 +110,7 @@ pool_pairs_line d ws = do
   pairs ← limit_pairs_of (pairs_of class) first.1
   Ok (with_pool place (with_limits pairs) d)
 
+-- the initial level of buckets
 abbrev pub with_initial : ℕ → Drafts → Drafts
 with_initial level d = record d { initial = level }
 
@@ -130,6 +135,7 @@ abbrev pub first_port : Option ℕ → ℕ → Option ℕ
 first_port None port = Some port
 first_port (Some earlier) port = Some earlier
 
+-- the port, if none was stated before
 abbrev pub with_http_port : ℕ → Drafts → Drafts
 with_http_port port d = record d { port = first_port d.port port }
 

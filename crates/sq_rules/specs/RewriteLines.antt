@@ -18,6 +18,7 @@ use Rattle.sq_rules.specs.declared.directives.ClassOption.TheVariants as option
 use Rattle.sq_rules.specs.declared.kinds.Kind.{Kind}
 use Rattle.sq_rules.specs.declared.kinds.Kind.TheVariants.{BadValue, UnknownOption}
 
+-- the rewriter's program
 abbrev pub with_program : WordList → Drafts → Drafts
 with_program words d = record d { program = Some words }
 
@@ -44,6 +45,7 @@ children_options =
 abbrev pub option_named : List ℕ → Option ClassOption
 option_named w = if has_equals w then beside children_options (before_first is_equals w) else None
 
+-- the option that a word of `url_rewrite_children` states
 unfoldable pub children_option : List ℕ → Result ClassOption Kind
 children_option w = needed UnknownOption (option_named w)
 
@@ -51,6 +53,7 @@ children_option w = needed UnknownOption (option_named w)
 unfoldable pub children_step : ClassDraft → List ℕ → Result ClassDraft Kind
 children_step s w = children_option w >>= λ o. with_option o (after_first is_equals w) s
 
+-- the class with this `children-max`
 abbrev pub most_children : ℕ → ClassDraft
 most_children max = record default_class { children_max = max }
 
@@ -66,6 +69,7 @@ children_words ws = do
   max ← number_between 1 children_limit first.0
   over children_step (most_children max) first.1
 
+-- the rewriter's children
 abbrev pub with_children : ClassDraft → Drafts → Drafts
 with_children s d = record d { children = Some (rewriter_with s) }
 

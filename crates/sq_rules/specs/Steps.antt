@@ -27,6 +27,7 @@ abbrev pub word : WordList → Result (List ℕ × WordList) Kind
 word [] = Err MissingWord
 word (w ∷ ws) = Ok (w, ws)
 
+-- whether a list is empty
 abbrev pub is_empty : {A : Type 0} → List A → Bool
 is_empty [] = true
 is_empty (x ∷ xs) = false

@@ -35,10 +35,12 @@ tag_of_body c s answers place (body.External class arguments) =
 tag_of_body c s answers place (body.AnyOf terms) = None
 tag_of_body c s answers place (body.AllOf lines) = None
 
+-- the tag that an acl gives, if it is there
 abbrev pub tag_of_acl : Configuration → Sight → List Answer → ℕ → Option Acl → Option (List ℕ)
 tag_of_acl c s answers place None = None
 tag_of_acl c s answers place (Some a) = tag_of_body c s answers place a.body
 
+-- the tag that the acl at this place gives
 abbrev pub tag_at : Configuration → Sight → List Answer → ℕ → Option (List ℕ)
 tag_at c s answers place = tag_of_acl c s answers place (slice_get c.acls place)
 

@@ -30,6 +30,7 @@ negated Miss = Hit
 negated (Fault acl cause) = Fault acl cause
 negated (Need acl key) = Need acl key
 
+-- a value, turned round under `!`
 abbrev pub turned : Bool → TermValue → TermValue
 turned true v = negated v
 turned false v = v
@@ -101,6 +102,7 @@ taken_of_body c s answers place (body.External class arguments) =
 taken_of_body c s answers place (body.AnyOf terms) = Miss
 taken_of_body c s answers place (body.AllOf lines) = Miss
 
+-- the value of an acl, if it is there; else it does not hold
 abbrev pub taken_of_acl : Configuration → Sight → List Answer → ℕ → Option Acl → TermValue
 taken_of_acl c s answers place None = Miss
 taken_of_acl c s answers place (Some a) = taken_of_body c s answers place a.body

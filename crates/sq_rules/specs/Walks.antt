@@ -15,12 +15,14 @@ use Rattle.sq_rules.specs.declared.values.TermValue.TheVariants.{Hit, Miss, Faul
 use Rattle.sq_rules.specs.Configurations.{Configuration}
 use Rattle.sq_rules.specs.Values.{both, member_value, rule_value, taken_at}
 
+-- whether the value is a hit
 abbrev pub is_hit : TermValue → Bool
 is_hit Hit = true
 is_hit Miss = false
 is_hit (Fault acl cause) = false
 is_hit (Need acl key) = false
 
+-- whether the value is a miss
 abbrev pub is_miss : TermValue → Bool
 is_miss Miss = true
 is_miss Hit = false
@@ -52,6 +54,7 @@ body_walk member place (body.External class arguments) = place ∷ []
 body_walk member place (body.AnyOf terms) = walk_while is_miss (map member terms)
 body_walk member place (body.AllOf lines) = walk_while is_miss (map (line_seen member) lines)
 
+-- the acls whose values an acl takes, if it is there
 abbrev pub acl_walk : (Term → Seen) → ℕ → Option Acl → List ℕ
 acl_walk member place None = []
 acl_walk member place (Some a) = body_walk member place a.body

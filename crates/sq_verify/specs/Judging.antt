@@ -64,6 +64,7 @@ event_line v configs h line now (Reconfigure text) = if_read (conf_result text)
     (asked_line v configs h line now (Reconfigure text))
 event_line v configs h line now event = asked_line v configs h line now event
 
+-- the history after a line that states this entry; a line that states none ends it
 abbrev pub stated_line : Version → List Configuration → History → List ℕ → Option Noted
     → Result History Halt
 stated_line v configs h line None = Err halt.NoLine
@@ -81,6 +82,7 @@ begun_line v line now (Begin offset) = compared v [] line
     (entry_at now (Begin offset) (told.Epoch 1))
 begun_line v line now event = Err halt.NoLine
 
+-- the history after the first line of a journal
 abbrev pub stated_first : Version → List ℕ → Option Noted → Result History Halt
 stated_first v line None = Err halt.NoLine
 stated_first v line (Some e) = begun_line v line e.moment e.event
@@ -134,6 +136,7 @@ abbrev pub named_by : Event → List Configuration → List Configuration
 named_by (Reconfigure text) more = with_config (conf_result text) more
 named_by event more = more
 
+-- the configurations with the one in front that an entry names
 abbrev pub named_in : Option Noted → List Configuration → List Configuration
 named_in None more = more
 named_in (Some e) more = named_by e.event more
@@ -161,6 +164,7 @@ abbrev pub judged_two : Configuration → SourceLine → List SourceLine → Jud
 judged_two config l ls = judged_first version.Two (epochs_of version.Two config ls)
     (length l.bytes + 1) ls
 
+-- what a journal of version 1 comes to
 abbrev pub judged_one : Configuration → List SourceLine → Judged
 judged_one config ls = judged_first version.One (epochs_of version.One config ls) 0 ls
 

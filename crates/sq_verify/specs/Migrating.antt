@@ -21,6 +21,7 @@ use Rattle.sq_verify.specs.declared.migrating.MigrateFault.TheVariants as fault
 abbrev pub is_in_place : Bool → Event → Bool
 is_in_place is_first event = if is_first then is_begin event else not (is_begin event)
 
+-- the entry, if it stands at its place: `begin` first, and nowhere else
 abbrev pub placed : Bool → Option Noted → Option Noted
 placed is_first None = None
 placed is_first (Some e) = if is_in_place is_first e.event then Some e else None
