@@ -1,5 +1,5 @@
 -- What stands before the lines.
-use Rattle.std.proofs.Common.{◌≡◌, ℕ, ◌+◌, ◌≤◌, suc, List, [], ◌∷◌, ◌++◌, length, Bool, true, false, ◌*◌, append_assoc, append-nil, refl, sym, ap, subst, ◌∙◌, arith, Option, Some, None, if◌then◌else◌}
+use Rattle.std.proofs.Common.{◌≡◌, ℕ, ◌+◌, ◌≤◌, suc, List, [], ◌∷◌, ◌++◌, length, Bool, true, false, ◌*◌, append_assoc, append-nil, refl, sym, ap, subst, ◌∙◌, arith, Option, Some, None, if◌then◌else◌, is_some}
 use Rattle.std.proofs.lemmas.List.{length-append}
 use Rattle.std.specs.Str.{bytes_eq}
 use Rattle.sq_base.specs.declared.addresses.Range.{Range}
@@ -11,7 +11,7 @@ use Rattle.sq_rules.specs.Changes.{all_patterns}
 use Rattle.sq_rules.specs.Configurations.{are_known_bodies, have_own_names, place_from}
 use Rattle.sq_rules.specs.Limits.{acl_limit, most_acls}
 use Rattle.sq_rules.specs.Drafts.{first_acls, first_classes, with_first, with_firsts}
-use Rattle.sq_rules.specs.Lookups.{are_looked_up, asking_acl, begins_literal, classes_within, either_acl, is_dst, literal_name, looked_up, lookup_name, named_acl, named_name, stated_acls, values_acl}
+use Rattle.sq_rules.specs.Lookups.{are_looked_up, asking_acl, begins_literal, classes_within, either_acl, is_dst, literal_name, looked_up, lookup_name, named_acl, named_name, stated_acls, values_acl, LookupSizes}
 use Rattle.sq_rules.specs.declared.configs.Acl.{Acl}
 use Rattle.sq_rules.specs.declared.configs.Body.{Body}
 use Rattle.sq_rules.specs.declared.configs.Body.TheVariants as body
@@ -41,21 +41,23 @@ own_front acls before after x own =
     (subst (λ l. have_own_names named l ≡ true) (sym (append_assoc acls before (x ∷ after))) own))
 
 -- what begins holds of what stands before the lines
-pub begun_members : (lookup : Bool) → are_known_bodies (length (first_classes lookup)) 0 (first_acls lookup) ≡ true
-begun_members true = refl
-begun_members false = refl
+pub begun_members : (sizes : Option LookupSizes)
+    → are_known_bodies (length (first_classes sizes)) 0 (first_acls (is_some sizes)) ≡ true
+begun_members (Some sizes) = refl
+begun_members None = refl
 
 pub begun_patterns : (lookup : Bool) → all_patterns (first_acls lookup) ≡ true
 begun_patterns true = rw (cache_objects, managers) refl
 begun_patterns false = rw (cache_objects, managers) refl
 
-pub begun_looked : (lookup : Bool) → are_looked_up lookup (first_classes lookup) (first_acls lookup) ≡ true
-begun_looked true = refl
-begun_looked false = refl
+pub begun_looked : (sizes : Option LookupSizes)
+    → are_looked_up (is_some sizes) (first_classes sizes) (first_acls (is_some sizes)) ≡ true
+begun_looked (Some sizes) = refl
+begun_looked None = refl
 
-pub begun_classes : (lookup : Bool) → length (first_classes lookup) ≤ classes_within lookup
-begun_classes true = omega arith
-begun_classes false = omega arith
+pub begun_classes : (sizes : Option LookupSizes) → length (first_classes sizes) ≤ classes_within (is_some sizes)
+begun_classes (Some sizes) = omega arith
+begun_classes None = omega arith
 
 pub begun_stated : (lookup : Bool) → stated_acls lookup (first_acls lookup) ≤ acl_limit
 begun_stated true = omega arith

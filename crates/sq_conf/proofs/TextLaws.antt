@@ -1,4 +1,5 @@
 -- What a text gives: a configuration of which all holds that holds of every one, with the text as its source.
+use Rattle.sq_rules.specs.Lookups.{LookupSizes}
 use Rattle.std.proofs.Common.{◌≡◌, ℕ, ◌<◌, ◌≤◌, List, [], ◌∷◌, length, Bool, true, false, refl, sym, ap, arith, Option, Some, None, Result, Ok, Err, nat_lt, if◌then◌else◌}
 use Rattle.std.proofs.lemmas.Bool.Decides.{nat_tests}
 use Rattle.std.specs.Prelude.{IfOk}
@@ -69,9 +70,9 @@ pub all_keep : (ls : List Line) → IfOk (all_read ls) IsWhole
 unfolding all_read
 all_keep ls = by (lookup_read ls)
   where
-    by : (r : Result Bool ConfError)
-        → IfOk (and_then r (λ lookup. lines_read (begun lookup) (lines_left ls))) IsWhole
-    by (Ok lookup) = lines_keep (begun lookup) (lines_left ls) (begun_whole lookup)
+    by : (r : Result (Option LookupSizes) ConfError)
+        → IfOk (and_then r (λ sizes. lines_read (begun sizes) (lines_left ls))) IsWhole
+    by (Ok sizes) = lines_keep (begun sizes) (lines_left ls) (begun_whole sizes)
     by (Err e) = tt
 
 text_keeps : (d : Drafts) (o : Option LineFault) → IsWhole d → IfOk (text_read d o) IsWhole

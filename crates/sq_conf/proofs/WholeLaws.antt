@@ -1,5 +1,5 @@
 -- What holds of drafts as lines leave them, after each of their changes.
-use Rattle.std.proofs.Common.{◌≡◌, ℕ, ◌≤◌, ◌<◌, List, [], ◌∷◌, ◌++◌, length, map, set, take, Bool, true, false, ◌&&◌, refl, ap, subst, ◌∙◌, arith, Option, Some, None, nat_le, nat_lt}
+use Rattle.std.proofs.Common.{◌≡◌, ℕ, ◌≤◌, ◌<◌, List, [], ◌∷◌, ◌++◌, length, map, set, take, Bool, true, false, ◌&&◌, refl, ap, subst, ◌∙◌, arith, Option, Some, None, nat_le, nat_lt, is_some}
 use Rattle.std.proofs.lemmas.Bool.{and_parts}
 use Rattle.std.proofs.lemmas.Bool.Decides.{nat_tests}
 use Rattle.std.proofs.lemmas.List.{length-map, length-set, length_push}
@@ -25,7 +25,7 @@ use Rattle.sq_rules.specs.Classes.{Class}
 use Rattle.sq_rules.specs.Configurations.{IsConfiguration, are_shallow, are_unique, have_distinct_names, is_header, is_known_body, is_known_rule, is_lower, nesting_of, nestings}
 use Rattle.sq_rules.specs.Drafts.{Drafts, PoolDraft, are_complete, are_fast, are_patterns, begun, change_body, finished, first_acls, first_classes, pool_at, pool_of_draft, with_acl_more, with_body, with_leaf, with_line, with_lookup, with_member, with_pool, with_pools}
 use Rattle.sq_rules.specs.Limits.{acl_limit, header_limit, initial_limit, nesting_limit, pool_limit, rule_limit, text_limit}
-use Rattle.sq_rules.specs.Lookups.{are_looked_up, begins_literal, classes_within, has_blank, is_dst, stated_acls, takes_members}
+use Rattle.sq_rules.specs.Lookups.{are_looked_up, begins_literal, classes_within, has_blank, is_dst, stated_acls, takes_members, LookupSizes}
 use Rattle.sq_rules.specs.Tables.{allowed}
 use Rattle.sq_rules.specs.declared.configs.Acl.{Acl}
 use Rattle.sq_rules.specs.declared.configs.Body.{Body}
@@ -52,39 +52,39 @@ begun_made : (lookup : Bool) → are_explained (names_of (first_acls lookup)) �
 begun_made true = refl
 begun_made false = refl
 
-begun_class_names : (lookup : Bool) → have_distinct_names (first_classes lookup) ≡ true
-begun_class_names true = refl
-begun_class_names false = refl
+begun_class_names : (sizes : Option LookupSizes) → have_distinct_names (first_classes sizes) ≡ true
+begun_class_names (Some sizes) = refl
+begun_class_names None = refl
 
 begun_shallow : (lookup : Bool) → are_shallow (first_acls lookup) ≡ true
 begun_shallow true = refl
 begun_shallow false = refl
 
-pub begun_whole : (lookup : Bool) → IsWhole (begun lookup)
+pub begun_whole : (sizes : Option LookupSizes) → IsWhole (begun sizes)
 unfolding begun
-begun_whole lookup = record {
+begun_whole sizes = record {
   sound = record {
-    members = begun_members lookup;
-    patterns = begun_patterns lookup;
+    members = begun_members sizes;
+    patterns = begun_patterns (is_some sizes);
     places = refl;
     pools_are = refl;
     headers_are = refl;
     lower_headers = refl;
     program_is = refl;
     children_are = refl;
-    lookups_are = begun_looked lookup;
-    few_classes = begun_classes lookup;
-    few_acls = begun_stated lookup;
-    all_acls = begun_acls lookup;
+    lookups_are = begun_looked sizes;
+    few_classes = begun_classes sizes;
+    few_acls = begun_stated (is_some sizes);
+    all_acls = begun_acls (is_some sizes);
     few_rules = omega arith;
     few_pools = omega arith;
     few_headers = omega arith;
     initial_is = omega arith;
   };
-  names = begun_names lookup;
-  made = begun_made lookup;
-  class_names = begun_class_names lookup;
-  shallow = begun_shallow lookup;
+  names = begun_names (is_some sizes);
+  made = begun_made (is_some sizes);
+  class_names = begun_class_names sizes;
+  shallow = begun_shallow (is_some sizes);
 }
 
 -- what stands beside acls, classes, pools and rules for fields

@@ -1,6 +1,7 @@
 pub mod ClassDrafts
 pub mod Forms
 pub mod LexFaults
+pub mod LookupDrafts
 pub mod Targets
 pub mod Texts
 pub mod Words

@@ -13,7 +13,7 @@ use crate::pools::{StatedPool, complete_pools};
 use sq_base::{Listed, Text, Texts, WantOfMemory};
 use sq_rules::{
     AclPart, AclTable, Body, BodyPart, Class, ClassTable, Config, ConfigFields, HeaderRules, Leaf,
-    Notice, Notices, Rules, literal_leaf, lookup_class, predefined_acls,
+    LookupSizes, Notice, Notices, Rules, literal_leaf, lookup_class, predefined_acls,
 };
 use std::alloc::Global;
 use std::marker::Model;
@@ -164,12 +164,12 @@ fn first_acls(alloc: Global, lookup: bool) -> Result<AclTable, WantOfMemory>
 }
 
 // The class that stands before the lines, where names are looked up.
-fn first_classes(alloc: Global, lookup: bool) -> Result<ClassTable, WantOfMemory>
-    ensures { IfOk result (λ classes. classes ≡ first_classes lookup) }
+fn first_classes(alloc: Global, sizes: Option<LookupSizes>) -> Result<ClassTable, WantOfMemory>
+    ensures { IfOk result (λ classes. classes ≡ first_classes sizes) }
 {
     let mut classes = ClassTable::new(alloc);
-    if lookup {
-        classes.push(alloc, lookup_class(alloc)?)?;
+    if let Some(sizes) = sizes {
+        classes.push(alloc, lookup_class(alloc, sizes)?)?;
     }
     Ok(classes)
 }
@@ -222,11 +222,12 @@ fn rewriter_of(
 impl Builder {
     /// What stands before the lines, where the names of hosts are looked up or not.
     #[tactic(auto, unfolding(sq_rules::specs::Drafts::begun))]
-    pub fn new(alloc: Global, lookup: bool) -> Result<Builder, WantOfMemory>
-        ensures { IfOk result (λ b. b ≡ begun lookup) }
+    pub fn new(alloc: Global, sizes: Option<LookupSizes>) -> Result<Builder, WantOfMemory>
+        ensures { IfOk result (λ b. b ≡ begun sizes) }
     {
-        let classes = first_classes(alloc, lookup)?;
+        let lookup = sizes.is_some();
         let acls = first_acls(alloc, lookup)?;
+        let classes = first_classes(alloc, sizes)?;
         Ok(Builder {
             dst_lookup: lookup,
             classes,

@@ -24,7 +24,7 @@ use crate::pool_lines::{
 use crate::port_lines::{note, port_line};
 use crate::rewrite_lines::{children_line, program_line};
 use sq_base::{Line, LineFault, Text};
-use sq_rules::{ConfError, Config, Directive, Kind, TEXT_LIMIT};
+use sq_rules::{ConfError, Config, Directive, Kind, LookupSizes, TEXT_LIMIT};
 use sq_urlmatch::{Setup, SetupFault};
 use std::alloc::Global;
 
@@ -96,13 +96,13 @@ fn read_lines(alloc: Global, builder: &mut Builder, lines: &[Line]) -> Result<()
 }
 
 // What a first line `dst_lookup` says.
-fn switch_in(line: &Line) -> Result<bool, ConfFault>
-    ensures { Tells (λ on. on) result
+fn sizes_in(line: &Line) -> Result<Option<LookupSizes>, ConfFault>
+    ensures { Tells (λ s. s) result
         (then_read line.now.number (lookup_line (behind_first line.now.words))
-        (λ lookup. Ok lookup)) }
+        (λ sizes. Ok sizes)) }
 {
     match lookup_line(behind_first(line.words.as_slice())) {
-        Ok(on) => Ok(on),
+        Ok(sizes) => Ok(sizes),
         Err(ReadFault::Memory) => Err(ConfFault::WantOfMemory),
         Err(ReadFault::Fault(kind)) => Err(ConfFault::At(ConfError {
             line: line.number,
@@ -111,17 +111,17 @@ fn switch_in(line: &Line) -> Result<bool, ConfFault>
     }
 }
 
-// Whether names are looked up, which the first line may say.
-fn read_lookup(lines: &[Line]) -> Result<bool, ConfFault>
-    ensures { Tells (λ on. on) result (lookup_read lines.now) }
+// Whether names are looked up, and how many, which the first line may say.
+fn read_lookup(lines: &[Line]) -> Result<Option<LookupSizes>, ConfFault>
+    ensures { Tells (λ s. s) result (lookup_read lines.now) }
 {
     match lines {
-        [] => Ok(false),
+        [] => Ok(None),
         [line, ..] => {
             if states_lookup(line.words.as_slice()) {
-                switch_in(line)
+                sizes_in(line)
             } else {
-                Ok(false)
+                Ok(None)
             }
         }
     }
@@ -148,8 +148,8 @@ fn lines_left(lines: &[Line]) -> &[Line]
 fn read_all(alloc: Global, lines: &[Line]) -> Result<Builder, ConfFault>
     ensures { Tells (λ b. b) result (all_read lines.now) }
 {
-    let lookup = read_lookup(lines)?;
-    let mut builder = Builder::new(alloc, lookup)?;
+    let sizes = read_lookup(lines)?;
+    let mut builder = Builder::new(alloc, sizes)?;
     read_lines(alloc, &mut builder, lines_left(lines))?;
     Ok(builder)
 }

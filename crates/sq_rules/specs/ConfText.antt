@@ -17,6 +17,7 @@ use Rattle.sq_rules.specs.Drafts.{Drafts, begun, are_complete, finished}
 use Rattle.sq_rules.specs.HeaderLines.{header_line}
 use Rattle.sq_rules.specs.Limits.{text_limit}
 use Rattle.sq_rules.specs.LookupLines.{behind_first, lookup_line, states_lookup}
+use Rattle.sq_rules.specs.Lookups.{LookupSizes}
 use Rattle.sq_rules.specs.PoolLines.{initial_line, pool_access_line, pool_class_line, pool_pairs_line, pools_line, port_line}
 use Rattle.sq_rules.specs.RewriteLines.{children_line, program_line}
 use Rattle.sq_rules.specs.Steps.{WordList, word}
@@ -59,6 +60,7 @@ without_effect =
     ∷ codes "hosts_file" ∷ codes "logfile_rotate" ∷ codes "pid_filename" ∷ codes "shutdown_lifetime"
     ∷ codes "visible_hostname" ∷ []
 
+-- a directive that is known and has no effect, or an unknown one
 abbrev pub directive_without_effect : List ℕ → Result Directive Kind
 directive_without_effect w = if is_among without_effect w then Ok directive.NoEffect
     else Err kind.UnknownDirective
@@ -97,6 +99,7 @@ line_read line d ws = do
   directive ← directive_of first.0
   by_directive directive line first.0 d first.1
 
+-- the error at this line
 abbrev pub error_at : {A : Type 0} → ℕ → Kind → Result A ConfError
 error_at line k = Err (record { line = line; kind = k })
 
@@ -112,17 +115,18 @@ lines_read d [] = Ok d
 lines_read d (l ∷ ls) = then_read l.number (line_read l.number d l.words)
     (λ next. lines_read next ls)
 
--- whether names are looked up, which the first line may say
-abbrev pub lookup_read : List Line → Result Bool ConfError
-lookup_read [] = Ok false
+-- whether names are looked up, and how many, which the first line may say
+abbrev pub lookup_read : List Line → Result (Option LookupSizes) ConfError
+lookup_read [] = Ok None
 lookup_read (l ∷ ls) = if states_lookup l.words then then_read l.number
-    (lookup_line (behind_first l.words)) (λ lookup. Ok lookup) else Ok false
+    (lookup_line (behind_first l.words)) (λ sizes. Ok sizes) else Ok None
 
 -- the lines that are left then
 abbrev pub lines_left : List Line → List Line
 lines_left [] = []
 lines_left (l ∷ ls) = if states_lookup l.words then ls else (l ∷ ls)
 
+-- the next step over a result, or its error
 abbrev pub and_then : {A B : Type 0} → Result A ConfError → (A → Result B ConfError)
     → Result B ConfError
 and_then (Ok x) f = f x
@@ -130,7 +134,7 @@ and_then (Err e) f = Err e
 
 -- all lines
 unfoldable pub all_read : List Line → Result Drafts ConfError
-all_read ls = and_then (lookup_read ls) (λ lookup. lines_read (begun lookup) (lines_left ls))
+all_read ls = and_then (lookup_read ls) (λ sizes. lines_read (begun sizes) (lines_left ls))
 
 -- the first line that is faulty as a whole comes after those before it
 abbrev pub text_read : Drafts → Option LineFault → Result Drafts ConfError

@@ -9,7 +9,7 @@ use Rattle.std.specs.Option.{unwrap_or}
 use Rattle.std.specs.declared.option.Option.{Option}
 use Rattle.sq_rules.specs.Classes.{Class}
 use Rattle.sq_rules.specs.Configurations.{Configuration, slow_ones, some_slow}
-use Rattle.sq_rules.specs.Lookups.{literal_acl, lookup_class, looked_up}
+use Rattle.sq_rules.specs.Lookups.{LookupSizes, literal_acl, lookup_class, looked_up}
 use Rattle.sq_rules.specs.Patterns.{is_pattern}
 use Rattle.sq_rules.specs.Predefined.{predefined}
 use Rattle.sq_rules.specs.Rates.{Limit}
@@ -51,6 +51,7 @@ pub record Drafts : Type 0 where
   pub headers : List HeaderRule
   pub notices : List Notice
 
+-- the body of a leaf acl
 abbrev pub leaf_of : BodyPart → Body
 leaf_of (part.Leaf l) = body.Leaf l
 leaf_of p = body.AnyOf []
@@ -75,15 +76,16 @@ first_acls lookup = if lookup then with_firsts (literal_acl ∷ []) predefined_o
     else predefined_ones
 
 -- the classes that do
-abbrev pub first_classes : Bool → List Class
-first_classes lookup = if lookup then lookup_class ∷ [] else []
+abbrev pub first_classes : Option LookupSizes → List Class
+first_classes None = []
+first_classes (Some sizes) = lookup_class sizes ∷ []
 
 -- what stands before the lines, where names are looked up or not
-unfoldable pub begun : Bool → Drafts
-begun lookup = record {
-  dst_lookup = lookup;
-  classes = first_classes lookup;
-  acls = first_acls lookup;
+unfoldable pub begun : Option LookupSizes → Drafts
+begun sizes = record {
+  dst_lookup = is_some sizes;
+  classes = first_classes sizes;
+  acls = first_acls (is_some sizes);
   rules = [];
   counted = false;
   pools = [];
@@ -95,6 +97,7 @@ begun lookup = record {
   notices = [];
 }
 
+-- the type of a leaf acl
 abbrev pub type_of_leaf : Leaf → AclType
 type_of_leaf (leaf.Src values) = type.Src
 type_of_leaf (leaf.Dst values) = type.Dst
@@ -184,9 +187,11 @@ abbrev pub are_fast_where : List Bool → List PoolDraft → List HeaderRule →
 are_fast_where slow pools headers = list_all (λ p. list_all (is_fast slow) p.lists) pools
     && list_all (λ h. is_fast slow h.rule) headers
 
+-- whether pools and header rules name only acls that ask no helper
 abbrev pub are_fast : List Acl → List PoolDraft → List HeaderRule → Bool
 are_fast acls pools headers = are_fast_where (slow_ones acls) pools headers
 
+-- a pool of which no line has said anything
 abbrev pub no_pool : PoolDraft
 no_pool = record { class = None; pairs = None; lists = [] }
 
@@ -194,6 +199,7 @@ no_pool = record { class = None; pairs = None; lists = [] }
 abbrev pub with_pools : ℕ → Drafts → Drafts
 with_pools count d = record d { counted = true; pools = replicate count no_pool }
 
+-- the pools with one of them changed
 abbrev pub changed_pool : (PoolDraft → PoolDraft) → Option PoolDraft → List PoolDraft → ℕ
     → List PoolDraft
 changed_pool change None pools place = pools

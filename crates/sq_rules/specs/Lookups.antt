@@ -3,14 +3,14 @@
 -- host that is an address meets; an acl that asks for the look-up of a name; and two groups over
 -- these. No word of a file holds a blank, so no name of a file is one of theirs (configuration
 -- reference, `acl`; `dst_lookup` is this program's own).
-use Rattle.std.specs.Prelude.{ℕ, ◌-◌, ◌^◌, suc, List, [], ◌∷◌, ◌++◌, length, Bool, true, false, not, ◌&&◌, ◌||◌, ◌==◌, nat_le, bytes_eq, codes, if◌then◌else◌, Some, None, slice_get}
+use Rattle.std.specs.Prelude.{ℕ, ◌≤◌, ◌-◌, ◌^◌, suc, List, [], ◌∷◌, ◌++◌, length, Bool, true, false, not, ◌&&◌, ◌||◌, ◌==◌, nat_le, bytes_eq, codes, if◌then◌else◌, Some, None, slice_get}
 use Rattle.std.specs.List.{list_any}
 use Rattle.std.specs.declared.option.Option.{Option}
 use Rattle.sq_base.specs.Lines.{is_blank}
 use Rattle.sq_base.specs.Ranges.{all_addresses}
 use Rattle.sq_base.specs.declared.addresses.Range.{Range}
 use Rattle.sq_rules.specs.Classes.{Class}
-use Rattle.sq_rules.specs.Limits.{class_limit}
+use Rattle.sq_rules.specs.Limits.{children_limit, class_limit, queue_limit}
 use Rattle.sq_rules.specs.declared.classes.Token.{Token}
 use Rattle.sq_rules.specs.declared.classes.Token.TheVariants as token
 use Rattle.sq_rules.specs.declared.configs.Acl.{Acl}
@@ -37,6 +37,7 @@ abbrev pub stated_of : {A : Type 0} → Bool → (A → List ℕ) → List A →
 stated_of true name_of list = unmade name_of list
 stated_of false name_of list = length list
 
+-- how many acls the file stated
 abbrev pub stated_acls : Bool → List Acl → ℕ
 stated_acls lookup acls = stated_of lookup (λ a. a.name) acls
 
@@ -54,9 +55,11 @@ stated_classes false classes = length classes
 abbrev pub literal_name : List ℕ → List ℕ
 literal_name name = name ++ codes " literal"
 
+-- the name of the acl that asks for the look-up
 abbrev pub lookup_name : List ℕ → List ℕ
 lookup_name name = name ++ codes " lookup"
 
+-- the name of the group that holds of hosts with names
 abbrev pub named_name : List ℕ → List ℕ
 named_name name = name ++ codes " named"
 
@@ -80,37 +83,52 @@ literal_acl = record {
 abbrev pub values_acl : List ℕ → List Range → Acl
 values_acl name values = record { name = literal_name name; body = body.Leaf (leaf.Dst values) }
 
+-- the acl that asks for the look-up of a host's name
 abbrev pub asking_acl : List ℕ → Acl
 asking_acl name = record { name = lookup_name name; body = body.External 0 [] }
 
+-- the group that asks where the host is no address
 abbrev pub named_acl : ℕ → List ℕ → Acl
 named_acl place name = record {
   name = named_name name;
   body = body.AllOf ((no_literal ∷ plain_term (suc place) ∷ []) ∷ []);
 }
 
+-- the group under the file's name: the values, or the look-up
 abbrev pub either_acl : ℕ → List ℕ → Acl
 either_acl place name = record {
   name = name;
   body = body.AnyOf (plain_term place ∷ plain_term (suc (suc place)) ∷ []);
 }
 
+-- the four acls of one list of type `dst`
 abbrev pub looked_up : ℕ → List ℕ → List Range → List Acl
 looked_up place name values = values_acl name values ∷ asking_acl name ∷ named_acl place name
     ∷ either_acl place name ∷ []
 
+-- how many names are looked up at once, and how many further questions wait
+pub record LookupSizes : Type 0 where
+  pub children_max : ℕ
+  pub queue_size : ℕ
+
+-- both lie in their ranges
+pub record AreLookupSizes (s : LookupSizes) : Type 0 where
+  pub some_children : 1 ≤ s.children_max
+  pub few_children : s.children_max ≤ children_limit
+  pub queue_size_is : s.queue_size ≤ queue_limit
+
 -- the class by which names are looked up
-abbrev pub lookup_class : Class
-lookup_class = record {
+abbrev pub lookup_class : LookupSizes → Class
+lookup_class s = record {
   name = codes "dst lookup";
   ttl = 60;
   negative_ttl = 60;
   grace = 0;
   cache = 262144;
-  children_max = 8;
+  children_max = s.children_max;
   startup = 0;
   concurrency = 0;
-  queue_size = 16;
+  queue_size = s.queue_size;
   format = token.Host ∷ token.AclName ∷ token.Arguments ∷ [];
   words = codes "dst lookup" ∷ [];
 }

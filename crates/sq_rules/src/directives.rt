@@ -1,4 +1,5 @@
-//! The directives of a configuration, and the options of `external_acl_type` and `url_rewrite_children`, by their names.
+//! The directives of a configuration, and the options of `external_acl_type`, `url_rewrite_children` and `dst_lookup`, by
+//! their names.
 
 /// A directive.
 #[derive(Clone, Copy, PartialEq, Eq)]
@@ -36,4 +37,11 @@ pub enum ClassOption {
     QueueSize,
     /// One of those that are read without effect, as a whole word.
     NoEffect,
+}
+
+/// An option of `dst_lookup`.
+#[derive(Clone, Copy, PartialEq, Eq)]
+pub enum LookupOption {
+    ChildrenMax,
+    QueueSize,
 }

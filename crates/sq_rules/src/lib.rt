@@ -42,7 +42,7 @@ pub use acl_types::AclType;
 pub use class_table::ClassTable;
 pub use classes::{Class, Classes, Token, Tokens};
 pub use configs::{Acl, Acls, Body, Config, ConfigFields, Lines, Rule, Rules, Term, Terms};
-pub use directives::{ClassOption, Directive};
+pub use directives::{ClassOption, Directive, LookupOption};
 pub use facts::Facts;
 pub use fast_lists::{is_pool_class, pairs_of};
 pub use formats::with_arguments;
@@ -54,7 +54,9 @@ pub use limits::{
     HEADER_LIMIT, INITIAL_LIMIT, MAXCONN_LIMIT, NAME_LIMIT, NESTING_LIMIT, POOL_LIMIT, QUEUE_LIMIT,
     RULE_LIMIT, SECONDS_LIMIT, TEXT_LIMIT, TOKEN_LIMIT,
 };
-pub use lookups::{has_blank, literal_leaf, literal_name, lookup_class, lookup_name, named_name};
+pub use lookups::{
+    LookupSizes, has_blank, literal_leaf, literal_name, lookup_class, lookup_name, named_name,
+};
 pub use member_faults::MemberFault;
 pub use notices::{Notice, Notices};
 pub use outcomes::{Outcome, Why};

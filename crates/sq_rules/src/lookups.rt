@@ -8,6 +8,7 @@ use crate::configs::{Acl, Body, Lines, Term, Terms};
 use crate::leaves::Leaf;
 use sq_base::{Addr, Listed, Range, Text, Texts, WantOfMemory};
 use std::alloc::Global;
+use std::marker::Model;
 
 const LITERAL: &[u8] = b" literal";
 
@@ -121,9 +122,27 @@ pub fn literal_leaf(alloc: Global) -> Result<Body, WantOfMemory>
     Ok(Body::Leaf(Leaf::Dst(ranges)))
 }
 
+/// How many names are looked up at once, and how many further questions wait.
+#[derive(Drop)]
+pub struct LookupSizes {
+    pub children_max: u32,
+    pub queue_size: u32,
+}
+
+impl Model for LookupSizes {
+    ghost use Rattle.sq_rules.specs.Lookups.{AreLookupSizes, LookupSizes};
+
+    ghost Value = { LookupSizes };
+
+    ghost view = { λ s. record { children_max = s.children_max; queue_size = s.queue_size } };
+
+    ghost invariant = { λ s. AreLookupSizes
+        (record { children_max = s.children_max; queue_size = s.queue_size }) };
+}
+
 /// The class by which names are looked up.
-pub fn lookup_class(alloc: Global) -> Result<Class, WantOfMemory>
-    ensures { IfOk result (λ c. c ≡ lookup_class) }
+pub fn lookup_class(alloc: Global, sizes: LookupSizes) -> Result<Class, WantOfMemory>
+    ensures { IfOk result (λ c. c ≡ lookup_class sizes) }
 {
     let mut format = Listed::new(alloc);
     format.push(Token::Host)?;
@@ -137,10 +156,10 @@ pub fn lookup_class(alloc: Global) -> Result<Class, WantOfMemory>
         negative_ttl: 60,
         grace: 0,
         cache: 262_144,
-        children_max: 8,
+        children_max: sizes.children_max,
         startup: 0,
         concurrency: 0,
-        queue_size: 16,
+        queue_size: sizes.queue_size,
         format,
         words,
     })
