@@ -1,6 +1,7 @@
 pub mod AloneLaws
 mod CheckLaws
 mod CourseLaws
+mod CountLaws
 mod Defaults
 mod DropLaws
 mod EndLaws

@@ -1,5 +1,5 @@
 -- How many connections of each address are open, as they are counted.
-use Rattle.std.specs.Prelude.{◌≡◌, ℕ, ◌-◌, ◌==◌, suc, List, if◌then◌else◌, unwrap_or}
+use Rattle.std.specs.Prelude.{◌≡◌, ℕ, Some, ◌-◌, ◌==◌, suc, List, if◌then◌else◌, unwrap_or}
 use Rattle.sq_base.specs.Addresses.{Address}
 use Rattle.sq_checks.specs.Tables.{value_at}
 
@@ -7,6 +7,10 @@ use Rattle.sq_checks.specs.Tables.{value_at}
 pub record Tallies : Type 0 where
   pub v4 : List (ℕ × ℕ)
   pub v6 : List (ℕ × ℕ)
+
+-- no number has a row without a count
+abbrev pub HasNoZeros : List (ℕ × ℕ) → Type 0
+HasNoZeros rows = (k : ℕ) → value_at rows k ≡ Some 0 → ⊥
 
 -- the count of an address, which is 0 where none is kept
 abbrev pub tally : Tallies → Address → ℕ

@@ -2,7 +2,7 @@
 ghost use Rattle.std.specs.Prelude.{◌≡◌, ◌-◌, suc, if◌then◌else◌, OnOk, OnErr, unwrap_or};
 ghost use Rattle.sq_base.specs.Addresses.{Address};
 ghost use Rattle.sq_machine.specs.Connections.{is_address};
-ghost use Rattle.sq_checks.specs.Counts.{tally, Lowers, Raises};
+ghost use Rattle.sq_checks.specs.Counts.{tally, HasNoZeros, Lowers, Raises};
 ghost use Rattle.sq_checks.specs.Tables.{value_at};
 
 use crate::tables::Table;
@@ -10,7 +10,8 @@ use sq_base::{Addr, WantOfMemory};
 use std::alloc::Global;
 use std::marker::Model;
 
-/// The counts of addresses that have some. A contract sees those of both kinds.
+/// The counts of the addresses that have open connections; an address without one has no row. A contract sees the rows of
+/// both kinds.
 #[derive(Drop)]
 pub struct ConnCounts {
     v4: Table<u32>,
@@ -18,11 +19,14 @@ pub struct ConnCounts {
 }
 
 impl Model for ConnCounts {
-    ghost use Rattle.sq_checks.specs.Counts.{Tallies};
+    ghost use Rattle.sq_checks.specs.Counts.{HasNoZeros, Tallies};
 
     ghost Value = { Tallies };
 
     ghost view = { λ c. record { v4 = c.v4; v6 = c.v6 } };
+
+    // So an address whose connections have all closed takes no memory.
+    ghost invariant = { λ c. HasNoZeros c.v4 × HasNoZeros c.v6 };
 }
 
 // The count that a table has for a number.
@@ -37,6 +41,7 @@ fn count_in(table: &Table<u32>, number: u128) -> u32
 
 impl ConnCounts {
     /// No address has any.
+    #[tactic(auto, using(crate::proofs::CountLaws::none_at_first))]
     pub fn new(alloc: Global) -> ConnCounts
         ensures { (a : Address) → tally result a ≡ 0 }
     {
@@ -86,9 +91,12 @@ impl ConnCounts {
 }
 
 // One more of a number. More connections than a count holds are as many as no memory holds.
+#[tactic(auto, using(crate::proofs::CountLaws::none_put))]
 fn raise(table: &mut Table<u32>, number: u128) -> Result<(), WantOfMemory>
+    requires rows { HasNoZeros table.old }
     ensures ok { OnOk result (Raises table.old table.new number) }
     ensures err { OnErr result (table.new ≡ table.old) }
+    ensures rows { HasNoZeros table.new }
 {
     let Some(count) = count_in(table, number).checked_add(1) else {
         return Err(WantOfMemory);
@@ -96,9 +104,12 @@ fn raise(table: &mut Table<u32>, number: u128) -> Result<(), WantOfMemory>
     table.put(number, count)
 }
 
-// One less of a number, which is forgotten where none is left.
+// One less of a number, whose row goes where none is left.
+#[tactic(auto, using(crate::proofs::CountLaws::none_put, crate::proofs::CountLaws::none_removed))]
 fn lower(table: &mut Table<u32>, number: u128)
-    ensures { Lowers table.old table.new number }
+    requires rows { HasNoZeros table.old }
+    ensures lowers { Lowers table.old table.new number }
+    ensures rows { HasNoZeros table.new }
 {
     let count = count_in(table, number);
     if count > 1 {
