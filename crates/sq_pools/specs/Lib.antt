@@ -5,3 +5,4 @@ pub mod Generations
 pub mod Granting
 pub mod Seats
 pub mod Stands
+pub mod Turning

@@ -1,9 +1,10 @@
 //! The delay pools of both kinds, as they lie behind their lock.
-ghost use Rattle.std.specs.Prelude.{◌≡◌, ◌+◌, ◌<◌, ◌≤◌, ◌==◌, ◌||◌, cond, is_some, max, min, nat_lt, suc, false, true, IfOk, OnOk, OnErr, IfErr};
+ghost use Rattle.std.specs.Prelude.{◌≡◌, ◌+◌, ◌<◌, ◌≤◌, ◌==◌, ◌||◌, cond, is_some, max, min, nat_lt, suc, false, true, IfOk, OnOk, OnErr, IfErr, IfSome};
 ghost use Rattle.sq_pools.specs.Basins.{grant_in, granted_limit, has_pool, has_tag_pool, is_dry, made_in, seat_in, HasLeft, IsChosen, IsGranted, IsRenewed, IsTagChosen, IsTagRenewed};
 ghost use Rattle.sq_pools.specs.declared.pools.ChooseFault.TheVariants as fault;
 ghost use Rattle.sq_machine.specs.Limits.{last_number};
 ghost use Rattle.sq_pools.specs.Granting.{granted_together};
+ghost use Rattle.sq_pools.specs.Turning.{given_of, has_turn, GrantsInTurn};
 
 use crate::pools::{ChooseFault, Pools};
 use crate::seats::Seat;
@@ -33,8 +34,8 @@ const PARTS: [u64; 10] = [512, 256, 128, 64, 32, 16, 8, 4, 2, 1];
 /// The last moment.
 const LAST: u64 = 0x7fff_ffff_ffff_ffff;
 
-// The moment so many milliseconds behind this one, or the last.
-fn behind(now: Moment, passed: u64) -> Moment
+// The moment so many milliseconds after this one, or the last.
+pub(crate) fn behind(now: Moment, passed: u64) -> Moment
     ensures later { now ≤ result }
     ensures soon { result ≤ now + passed }
 {
@@ -59,7 +60,7 @@ fn next_second<F: Fn(Moment) -> u64>(now: Moment, second_at: &F) -> Moment
 }
 
 impl<G: Ledger> Bank<G> {
-    ghost use Rattle.sq_pools.specs.BankViews.{pools_of, tags_of};
+    ghost use Rattle.sq_pools.specs.BankViews.{pools_of, tags_of, tag_turns_of, turns_of};
 
     /// Pools of both kinds, and the book of what they granted so far.
     pub fn new(pools: Pools, tags: TagPools, grants: Book<G>) -> Bank<G>
@@ -67,12 +68,14 @@ impl<G: Ledger> Bank<G> {
         ensures pools { pools_of result ≡ pools }
         ensures tags { tags_of result ≡ tags }
     {
+        let turns = Turns::new(pools.alloc());
+        let tag_turns = Turns::new(tags.pools.alloc());
         Bank {
             pools,
             tags,
             grants,
-            turns: Turns::new(),
-            tag_turns: Turns::new(),
+            turns,
+            tag_turns,
         }
     }
 
@@ -178,28 +181,36 @@ impl<G: Ledger> Bank<G> {
         given
     }
 
-    /// Grants bytes to a seat. Where others wait for a bucket of the seat since an earlier second, it is an even part of what the
-    /// bucket holds that the seat is granted in this second, and no more: it waits for the next one then.
+    /// Grants a seat some of the bytes that it wants, where it is its turn: one call of the pools at this moment, for at least a
+    /// byte. Else no call is made. While others wait for a bucket of the seat since an earlier second, it is granted an even part of
+    /// what the bucket holds in this second, and no more: its turn comes with the next one.
     pub fn grant_in_turn(
         &mut self,
         seat: &Seat,
         wanted: u64,
         now: Moment,
         share: &mut Share<G>,
-    ) -> u64
+    ) -> Option<u64>
         requires { 0 < share.old.parts }
-        ensures within { result ≤ wanted }
-        ensures amount { share.new.amount ≡ share.old.amount + result }
+        ensures grants { GrantsInTurn seat.now (max now (pools_of self.old).latest) wanted result
+            (pools_of self.old) (pools_of self.new) }
+        ensures dry { IfSome result
+            (λ given. (given == 0) ≡ is_dry (pools_of self.old) (max now (pools_of self.old).latest)
+            (seat_in (pools_of self.old) seat.now)) }
+        ensures within { given_of result ≤ wanted }
+        ensures amount { share.new.amount ≡ share.old.amount + given_of result }
         ensures parts { share.new.parts ≡ share.old.parts }
+        ensures tags { tags_of self.new ≡ tags_of self.old }
     {
         let number = seat.number();
-        let second = self.pools.second(seat, now);
-        let others = self.turns.others(number, second);
-        let part = self.pools.even_part(seat, &others, now);
-        let left = self.turns.left(number, second, part, &others);
-        let amount = self.grant(seat, wanted.min(left), now, share);
-        self.turns.note(number, second, amount);
-        amount
+        let asked = self.turns.asks(&self.pools, number, wanted, now);
+        if asked == 0 {
+            self.turns.note(&self.pools, number, 0, now);
+            return None;
+        }
+        let given = self.grant(seat, asked, now, share);
+        self.turns.note(&self.pools, number, given, now);
+        Some(given)
     }
 
     /// The same for a seat for a tag.
@@ -209,20 +220,27 @@ impl<G: Ledger> Bank<G> {
         wanted: u64,
         now: Moment,
         share: &mut Share<G>,
-    ) -> u64
+    ) -> Option<u64>
         requires { 0 < share.old.parts }
-        ensures within { result ≤ wanted }
-        ensures amount { share.new.amount ≡ share.old.amount + result }
+        ensures grants { GrantsInTurn seat.now (max now (tags_of self.old).latest) wanted result
+            (tags_of self.old) (tags_of self.new) }
+        ensures dry { IfSome result
+            (λ given. (given == 0) ≡ is_dry (tags_of self.old) (max now (tags_of self.old).latest)
+            (seat_in (tags_of self.old) seat.now)) }
+        ensures within { given_of result ≤ wanted }
+        ensures amount { share.new.amount ≡ share.old.amount + given_of result }
         ensures parts { share.new.parts ≡ share.old.parts }
+        ensures pools { pools_of self.new ≡ pools_of self.old }
     {
         let number = seat.number();
-        let second = self.tags.second(seat, now);
-        let others = self.tag_turns.others(number, second);
-        let part = self.tags.even_part(seat, &others, now);
-        let left = self.tag_turns.left(number, second, part, &others);
-        let amount = self.grant_tag(seat, wanted.min(left), now, share);
-        self.tag_turns.note(number, second, amount);
-        amount
+        let asked = self.tag_turns.asks(&self.tags.pools, number, wanted, now);
+        if asked == 0 {
+            self.tag_turns.note(&self.tags.pools, number, 0, now);
+            return None;
+        }
+        let given = self.grant_tag(seat, asked, now, share);
+        self.tag_turns.note(&self.tags.pools, number, given, now);
+        Some(given)
     }
 
     /// The first moment behind this one at which the buckets of a seat gain, a second behind it at most.
@@ -230,7 +248,7 @@ impl<G: Ledger> Bank<G> {
         ensures later { now ≤ result }
         ensures soon { result ≤ now + 1000 }
     {
-        next_second(now, &|at: Moment| self.pools.second(seat, at))
+        next_second(now, &|at: Moment| self.pools.second(seat.number(), at))
     }
 
     /// The same for the bucket of a seat for a tag.
@@ -238,24 +256,26 @@ impl<G: Ledger> Bank<G> {
         ensures later { now ≤ result }
         ensures soon { result ≤ now + 1000 }
     {
-        next_second(now, &|at: Moment| self.tags.second(seat, at))
+        next_second(now, &|at: Moment| self.tags.pools.second(seat.number(), at))
     }
 
     /// Gives a seat up.
     pub fn leave(&mut self, seat: Seat)
         ensures left { HasLeft (pools_of self.old) (pools_of self.new) seat }
+        ensures forgotten { has_turn (turns_of self.new) seat ≡ false }
         ensures tags { tags_of self.new ≡ tags_of self.old }
     {
-        self.turns.leave(seat.number());
+        self.turns.leave(&self.pools, seat.number());
         self.pools.leave(seat);
     }
 
     /// Gives a seat for a tag up.
     pub fn leave_tag(&mut self, seat: TagSeat)
         ensures left { HasLeft (tags_of self.old) (tags_of self.new) seat }
+        ensures forgotten { has_turn (tag_turns_of self.new) seat ≡ false }
         ensures pools { pools_of self.new ≡ pools_of self.old }
     {
-        self.tag_turns.leave(seat.number());
+        self.tag_turns.leave(&self.tags.pools, seat.number());
         self.tags.leave(seat);
     }
 

@@ -1,6 +1,6 @@
 //! The holds of the pools' lock. Nothing is proved here of what lies under it but what its type keeps; each function
 //! takes the lock, makes the one call of its name with the arguments that it was handed, and lets go; `grant` makes
-//! `grant_in_turn`, and `grant_tag` `grant_tag_in_turn`.
+//! `grant_in_turn`, and `grant_tag` `grant_tag_in_turn`, and both give 0 where that made no call.
 ghost use Rattle.std.specs.Prelude.{◌≡◌, ◌+◌, ◌<◌, ◌≤◌, true};
 ghost use Rattle.sq_pools.specs.Basins.{has_pool, has_tag_pool};
 
@@ -47,7 +47,7 @@ pub fn choose_tag<R: Wait, G: Ledger>(
         .choose_tag(alloc, epoch, config, pool, tag, now)
 }
 
-/// Grants bytes to a seat whose turn it is, which the share counts.
+/// Grants some bytes, which the share counts, to a seat whose turn it is, and else none.
 pub fn grant<R: Wait, G: Ledger>(
     rt: &R,
     bank: &Mutex<Bank<G>>,
@@ -61,7 +61,8 @@ pub fn grant<R: Wait, G: Ledger>(
     ensures amount { share.new.amount ≡ share.old.amount + result }
     ensures parts { share.new.parts ≡ share.old.parts }
 {
-    bank.lock(rt).grant_in_turn(seat, wanted, now, share)
+    let gave = bank.lock(rt).grant_in_turn(seat, wanted, now, share);
+    gave.unwrap_or(0)
 }
 
 /// The same for a seat for a tag.
@@ -78,7 +79,8 @@ pub fn grant_tag<R: Wait, G: Ledger>(
     ensures amount { share.new.amount ≡ share.old.amount + result }
     ensures parts { share.new.parts ≡ share.old.parts }
 {
-    bank.lock(rt).grant_tag_in_turn(seat, wanted, now, share)
+    let gave = bank.lock(rt).grant_tag_in_turn(seat, wanted, now, share);
+    gave.unwrap_or(0)
 }
 
 /// The first moment behind this one at which the buckets of a seat gain, a second behind it at most.

@@ -48,6 +48,7 @@ const GRANTED_LIMIT: u128 = 170141183460469231731687303715884105728;
 /// The delay pools of all epochs: a generation of buckets for each epoch that is the newest or has a seat in
 /// use, and the seats.
 pub struct Pools {
+    alloc: Global,
     generations: Generations,
     seats: Seats,
     given: u64,
@@ -60,6 +61,7 @@ pub struct Pools {
 impl Drop for Pools {
     fn drop(self) {
         let Pools {
+            alloc: _,
             generations: _,
             seats: _,
             given: _,
@@ -100,17 +102,6 @@ fn newer(one: EpochNo, other: EpochNo) -> EpochNo
     ensures { result ≡ max one other }
 {
     if one.0 < other.0 { other } else { one }
-}
-
-// A level divided among a seat and so many others, rounded up.
-fn divided(level: u64, others: u64) -> u64 {
-    let count = others.saturating_add(1).max(1);
-    let part = level / count;
-    if level % count == 0 {
-        part
-    } else {
-        part.saturating_add(1)
-    }
 }
 
 // The pool at a place.
@@ -189,6 +180,7 @@ impl Pools {
         let mut generations = Generations::new(alloc);
         generations.begin(alloc, epoch, pools, initial, now)?;
         Ok(Pools {
+            alloc,
             generations,
             seats: Seats::new(alloc),
             given: 0,
@@ -406,73 +398,34 @@ impl Pools {
         self.generations.bucket(seated.epoch, spot, self.latest)
     }
 
-    /// The second of its generation in which a seat is at a moment: its buckets gain as the next one begins.
-    pub fn second(&self, seat: &Seat, now: Moment) -> u64 {
-        match self.seats.get(seat.number()) {
+    // What they take memory from.
+    pub(crate) fn alloc(&self) -> Global {
+        self.alloc
+    }
+
+    // A seat in use, lent.
+    pub(crate) fn seated(&self, number: SeatNo) -> Option<&Seated>
+        ensures { option_copied result ≡ seat_in self.now number }
+    {
+        self.seats.get(number)
+    }
+
+    // What a bucket of an epoch holds at a moment, in bytes, if it is there.
+    pub(crate) fn level(&self, epoch: EpochNo, spot: &BucketSpot, now: Moment) -> Option<u64> {
+        let bucket = self
+            .generations
+            .bucket(epoch, spot, later(now, self.latest))?;
+        Some(bucket.level)
+    }
+
+    // The second of its generation in which a seat is at a moment: its buckets gain as the next one begins.
+    pub(crate) fn second(&self, number: SeatNo, now: Moment) -> u64 {
+        match self.seats.get(number) {
             Some(seated) => self
                 .generations
                 .second(seated.epoch, later(now, self.latest)),
             None => 0,
         }
-    }
-
-    // The place of the bucket that holds a seat back at a moment: that of its buckets that holds the least, the first of
-    // several.
-    fn narrowest(&self, seated: &Seated, now: Moment) -> Option<usize> {
-        let mut narrowest = None;
-        let mut least = u64::MAX;
-        let mut place = 0usize;
-        for spot in seated.spots.as_slice() {
-            if let Some(bucket) = self.generations.bucket(seated.epoch, spot, now) {
-                if narrowest.is_none() || bucket.level < least {
-                    narrowest = Some(place);
-                    least = bucket.level;
-                }
-            }
-            place = place.saturating_add(1);
-        }
-        narrowest
-    }
-
-    // Whether this bucket holds a seat back at a moment.
-    fn is_narrowest(&self, seated: &Seated, spot: &BucketSpot, now: Moment) -> bool {
-        let Some(place) = self.narrowest(seated, now) else {
-            return false;
-        };
-        match seated.spots.as_slice().get(place) {
-            Some(own) => *own == *spot,
-            None => false,
-        }
-    }
-
-    // How many of these seats this bucket of this epoch holds back at a moment.
-    fn held_back(&self, others: &[SeatNo], epoch: EpochNo, spot: &BucketSpot, now: Moment) -> u64 {
-        let mut count = 0u64;
-        for number in others {
-            if let Some(seated) = self.seats.get(*number) {
-                if seated.epoch == epoch && self.is_narrowest(seated, spot, now) {
-                    count = count.saturating_add(1);
-                }
-            }
-        }
-        count
-    }
-
-    /// The least of what a seat's buckets hold at a moment, in bytes, each divided evenly among the seat and those of these
-    /// others that this very bucket holds back, and rounded up. One that another bucket holds back takes no part here.
-    pub fn even_part(&self, seat: &Seat, others: &[SeatNo], now: Moment) -> u64 {
-        let Some(seated) = self.seats.get(seat.number()) else {
-            return 0;
-        };
-        let now = later(now, self.latest);
-        let mut least = u64::MAX;
-        for spot in seated.spots.as_slice() {
-            if let Some(bucket) = self.generations.bucket(seated.epoch, spot, now) {
-                let count = self.held_back(others, seated.epoch, spot, now);
-                least = least.min(divided(bucket.level, count));
-            }
-        }
-        least
     }
 
     /// The sum of all grants so far, in bytes, or 2^127 where that is less.

@@ -15,7 +15,7 @@ use std::sync::Arc;
 /// A seat in a delay pool with buckets by tags. It is not copied: who has it gives it up once.
 #[derive(Drop)]
 pub struct TagSeat {
-    seat: Seat,
+    pub(crate) seat: Seat,
 }
 
 impl Model for TagSeat {
@@ -38,7 +38,7 @@ impl TagSeat {
 /// The delay pools of all epochs whose buckets are by tags: a generation of buckets for each epoch that is the newest or
 /// has a seat in use, and the seats. A generation begins without a bucket.
 pub struct TagPools {
-    pools: Pools,
+    pub(crate) pools: Pools,
 }
 
 // Written out, so that it is proved here alone.
@@ -166,17 +166,6 @@ impl TagPools {
         ensures none { is_none result ≡ is_none (spot_at (seat_in self.now seat.now) i) }
     {
         self.pools.bucket(&seat.seat, i)
-    }
-
-    /// The second of its generation in which a seat is at a moment: its bucket gains as the next one begins.
-    pub fn second(&self, seat: &TagSeat, now: Moment) -> u64 {
-        self.pools.second(&seat.seat, now)
-    }
-
-    /// What a seat's bucket holds at a moment, in bytes, divided evenly among the seat and those of these others whose bucket
-    /// it is, and rounded up.
-    pub fn even_part(&self, seat: &TagSeat, others: &[SeatNo], now: Moment) -> u64 {
-        self.pools.even_part(&seat.seat, others, now)
     }
 
     /// The sum of all grants so far, in bytes, or 2^127 where that is less.
