@@ -13,7 +13,7 @@ use Rattle.sq_channel.specs.declared.replies.Got.TheVariants as got
 use Rattle.sq_farm.specs.Replies.{got_of}
 use Rattle.sq_machine.specs.Channels.{Channels, freed, slot_of}
 use Rattle.sq_machine.specs.Farms.{AreOfClass, Stock, emptied, fresh, is_last_start}
-use Rattle.sq_machine.specs.Living.{Living, find_proc, is_none_living, is_target, living_number, sent, settled_in, target, without}
+use Rattle.sq_machine.specs.Living.{Living, find_proc, is_none_living, is_target, living_number, sent, settled_in, without}
 use Rattle.sq_machine.specs.Rising.{AreBelow, Rises}
 use Rattle.sq_rules.specs.Classes.{Class}
 use Rattle.sq_rewrite.specs.Calls.{Call, Calls, Asked, Acted, Started, StartFailed, Wrote, Died, Took}

@@ -1,6 +1,6 @@
 -- The process of a number, and the question on each of its channels,
 -- before and after a send, a reply, an end and a start.
-use Rattle.std.proofs.Common.{◌≡◌, ◌∙◌, ◌==◌, ◌<◌, ◌-◌, Bool, true, false, ℕ, zero, suc, List, [], ◌∷◌, length, map, max, replicate, Option, None, Some, if◌then◌else◌, is_some, nat_lt, refl, ap, sym, arith}
+use Rattle.std.proofs.Common.{◌≡◌, ◌∙◌, ◌==◌, ◌<◌, Bool, true, false, ℕ, zero, suc, List, [], ◌∷◌, length, map, max, replicate, Option, None, Some, if◌then◌else◌, is_some, nat_lt, refl, ap, sym, arith}
 use Rattle.std.proofs.lemmas.Bool.Decides.{nat_tests}
 use Rattle.std.proofs.lemmas.List.{length-replicate}
 use Rattle.std.specs.Option.{option_map}

@@ -5,6 +5,7 @@ mod FarmLaws
 mod FindLaws
 mod LostLaws
 mod OpenLaws
+mod RoundLaws
 mod RowLaws
 mod RunLaws
 -- of calls behind a state

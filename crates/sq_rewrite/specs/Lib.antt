@@ -7,6 +7,7 @@ pub mod Statuses
 pub mod Transcripts
 pub mod Handing
 pub mod LineViews
+pub mod PumpRounds
 pub mod Pumps
 pub mod RewriterCalls
 pub mod Turning

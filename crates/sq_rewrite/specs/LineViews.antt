@@ -1,4 +1,5 @@
--- The rewriter of a keeper, and what the keeper counted; the number of a process, and its half.
+-- The rewriter of a keeper, and what the keeper counted; the number of a process,
+-- the moment of its start, and its half.
 use Rattle.std.specs.Prelude.{ℕ}
 use Rattle.sq_rewrite.specs.declared.lines.RewriterLines.{RewriterLines}
 use Rattle.sq_rewrite.specs.declared.unread.UnreadHalf.{UnreadHalf}
@@ -11,6 +12,9 @@ lines_refused s = s.refused
 
 abbrev pub half_proc : {P : Type 0} → UnreadHalf P → ℕ
 half_proc half = half.proc
+
+abbrev pub half_since : {P : Type 0} → UnreadHalf P → ℕ
+half_since half = half.since
 
 abbrev pub half_from : {P : Type 0} → UnreadHalf P → P
 half_from half = half.from

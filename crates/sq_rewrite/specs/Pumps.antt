@@ -22,12 +22,19 @@ pub record RewritePumpView (P Q : Type 0) : Type 0 where
   pub room : ℕ
   pub left : Option (StartedHalves P Q)
 
--- what is seen of a pump round a call of it: before, what the call answered, and behind it
+-- what is seen of a pump round a call of it: at which moment it is, the pump before, what the call
+-- answered, and the pump after
 pub record RewriteStep (P Q : Type 0) : Type 0 where
+  pub moment : ℕ
   pub before : RewritePumpView P Q
   pub result : RewriterTurn
   pub now : RewritePumpView P Q
 
-abbrev pub step : {P Q : Type 0} → RewritePumpView P Q → RewriterTurn → RewritePumpView P Q
+abbrev pub step : {P Q : Type 0} → ℕ → RewritePumpView P Q → RewriterTurn → RewritePumpView P Q
     → RewriteStep P Q
-step before result now = record { before = before; result = result; now = now }
+step moment before result now = record {
+  moment = moment;
+  before = before;
+  result = result;
+  now = now;
+}

@@ -15,6 +15,7 @@ use Rattle.sq_rewrite.specs.declared.faults.RewriteFault.TheVariants as fault
 use Rattle.sq_rewrite.specs.Handing.{HandsDeath}
 use Rattle.sq_rewrite.specs.Pumps.{RewritePumpView, RewriteStep}
 use Rattle.sq_rewrite.specs.RewriterCalls.{MakesAct, NotesFailure, NotesStart, Tells}
+use Rattle.sq_rewrite.specs.declared.turns.RewriterTurn.{RewriterTurn}
 use Rattle.sq_rewrite.specs.declared.turns.RewriterTurn.TheVariants as turn
 use Rattle.sq_rewrite.specs.declared.turns.StartedHalves.{StartedHalves}
 
@@ -50,27 +51,29 @@ ClosesHalf {Q = Q} tells proc old new = (shut : List (Pipe Q))
     × ChangesHalf proc (IsShut tells) old shut × (new ≡ open_ones shut)
 
 -- the half of the process was closed and kept
-abbrev pub StopsProcess : {P Q : Type 0} → HalfTells Q → ℕ → RewriteStep P Q → Type 0
-StopsProcess tells proc step =
-    (step.result ≡ turn.Acted (act.Stop proc)) × ChangesPipes step.before step.now
-    × (step.now.told ≡ step.before.told)
-    × ChangesHalf proc (IsShut tells) step.before.pipes step.now.pipes
+abbrev pub StopsProcess : {P Q : Type 0} → HalfTells Q → ℕ → RewritePumpView P Q → RewriterTurn
+    → RewritePumpView P Q → Type 0
+StopsProcess tells proc before result now =
+    (result ≡ turn.Acted (act.Stop proc)) × ChangesPipes before now
+    × (now.told ≡ before.told)
+    × ChangesHalf proc (IsShut tells) before.pipes now.pipes
 
 -- The question's line was written to the half of the process; or the write failed, the half was
 -- closed, and the rewriter was told of the death.
 abbrev pub SendsQuestion : {P Q : Type 0} → HalfTells Q → ℕ → ℕ → Option ℕ → List ℕ
-    → RewriteStep P Q → Type 0
-SendsQuestion tells proc question channel text step =
-    (step.result ≡ turn.Acted (act.Send proc question channel text))
-    × ChangesPipes step.before step.now
-    × (((step.now.told ≡ step.before.told)
+    → RewritePumpView P Q → RewriterTurn → RewritePumpView P Q → Type 0
+SendsQuestion tells proc question channel text before result now =
+    (result ≡ turn.Acted (act.Send proc question channel text))
+    × ChangesPipes before now
+    × (((now.told ≡ before.told)
     × ChangesHalf proc (Asks tells.contents tells.faults (question_text channel text))
-    step.before.pipes step.now.pipes)
+    before.pipes now.pipes)
     ⊎ (Changes proc (Fails tells.contents tells.faults tells.closed (question_text channel text))
-    step.before.pipes step.now.pipes
-    × HandsDeath step.before.told step.now.told proc))
+    before.pipes now.pipes
+    × HandsDeath before.told now.told proc))
 
--- The process was noted as started, and both its halves were taken up with its number; or the
+-- The process was noted as started, and both its halves were taken up with its number, the one that
+-- is read with the moment of the turn, too; or the
 -- rewriter refused it, and neither was; or there was no memory, and both are left.
 abbrev pub NotesProcess : {P Q : Type 0} → P → Q → RewriteStep P Q → Type 0
 NotesProcess from to step =
@@ -78,7 +81,8 @@ NotesProcess from to step =
     × Tells (NotesStart (Ok proc)) step.before.told step.now.told
     × (step.now.pipes
     ≡ step.before.pipes ++ record { proc = proc; to = to; closed = false } ∷ [])
-    × (step.now.readers ≡ step.before.readers ++ record { proc = proc; from = from } ∷ [])
+    × (step.now.readers ≡ step.before.readers
+    ++ record { proc = proc; since = step.moment; from = from } ∷ [])
     × (step.now.left ≡ None))
     ⊎ ((refusal : RewriteFault) × ¬ (refusal ≡ fault.WantOfMemory)
     × (step.result ≡ turn.Acted act.Start)
@@ -117,9 +121,10 @@ StartsProcess {P = P} {Q = Q} read_faults tells step =
 -- an act
 abbrev pub PerformsAct : {P Q : Type 0} → (P → ℕ) → HalfTells Q → RewriteAct → RewriteStep P Q
     → Type 0
-PerformsAct read_faults tells (act.Stop proc) step = StopsProcess tells proc step
+PerformsAct read_faults tells (act.Stop proc) step =
+    StopsProcess tells proc step.before step.result step.now
 PerformsAct read_faults tells (act.Send proc question channel text) step =
-    SendsQuestion tells proc question channel text step
+    SendsQuestion tells proc question channel text step.before step.result step.now
 PerformsAct read_faults tells act.Start step = StartsProcess read_faults tells step
 
 -- the act that was due was made, and is performed

@@ -1,8 +1,6 @@
 //! `RewritePump`: what performs the acts of a rewriter.
 ghost use Rattle.std.specs.Prelude.{◌≡◌, ◌++◌, ◌∷◌, ◌<◌, [], None, IfNone, IfSome};
 ghost use Rattle.sq_keeper.specs.Pipes.{half_tells};
-ghost use Rattle.sq_rewrite.specs.Handing.{HandsDeath};
-ghost use Rattle.sq_rewrite.specs.LineViews.{half_proc};
 ghost use Rattle.sq_rewrite.specs.Turning.{ClosesHalf};
 
 use crate::calls::RewriterCalls;
@@ -105,21 +103,5 @@ where
     {
         self.pipes.stop(proc);
         self.pipes.sweep();
-    }
-
-    /// No keeper is to be had for this half: that of its process that is written to is closed and let go of, with those that
-    /// were closed before, and the rewriter is told that the process died. It takes no memory.
-    pub fn unkept(&mut self, half: &UnreadHalf<S::ChildOut>)
-        ensures pipes { ClosesHalf
-            (half_tells S.ChildIn.contents S.ChildIn.faults S.ChildIn.closed)
-            (half_proc half.now) self.old.pipes self.new.pipes }
-        // The rewriter noted this death, or refused it.
-        ensures hands { HandsDeath self.old.told self.new.told (half_proc half.now) }
-        ensures same { self.new ≡ record self.old
-            { pipes = self.new.pipes; told = self.new.told } }
-    {
-        let proc = half.proc();
-        self.ended(proc);
-        let _gave = self.rewriter.died(proc);
     }
 }

@@ -1,14 +1,19 @@
 //! The thread of a rewriter's pump.
+ghost use Rattle.std.specs.Prelude.{◌≡◌, ◌≤◌, true};
+ghost use Rattle.sq_keeper.specs.Pipes.{half_tells};
+ghost use Rattle.sq_outside.specs.Causes.{HasCause, Rose, count_limit};
+ghost use Rattle.sq_rewrite.specs.PumpRounds.{HandsOut, IsRound};
+
 use crate::calls::RewriterCalls;
 use crate::keeping::keep;
 use crate::lock_rewriter::LockRewriter;
 use crate::pump::RewritePump;
 use crate::rewriter_room::RewriterRoom;
 use crate::rewriter_shelf::RewriterShelf;
-use crate::turns::RewriterTurn;
+use crate::rounds::RoundEnd;
 use crate::unread::UnreadHalf;
 use sq_base::Texts;
-use sq_outside::{Another, Clock, Source, Spawner};
+use sq_outside::{Another, Clock, Source, Spawner, raised};
 use std::alloc::Global;
 use std::sync::Wait;
 use std::thread;
@@ -42,49 +47,93 @@ fn begin<
     Err(shelf.take_back(rt))
 }
 
-// Starts a keeper for each half that the pump holds, up to one whose keeper could not be started: that is held on.
-fn hand_out<
-    's,
-    E,
-    R: Threads + Wait + Sync + 's,
-    S: Spawner + Drop + 's,
-    C: Clock + Another + Send + Drop + 's,
->(
+// The keepers of a scope, and how often the thread of one could not be had.
+#[derive(Drop)]
+struct ScopeKeepers<'s, E, R, S: Spawner, C> {
     rt: &'s R,
     alloc: Global,
     scope: &'s Scope<'s, E>,
     room: &'s RewriterRoom,
     shelf: &'s RewriterShelf<S::ChildOut>,
-    clock: &C,
-    pump: &mut RewritePump<S, LockRewriter<'s, R>>,
-) {
-    for _ in rt.forever() {
-        let Some(half) = pump.reader() else {
-            return;
-        };
-        match begin(rt, alloc, scope, room, shelf, clock, half) {
-            Ok(()) | Err(None) => {}
-            Err(Some(half)) => {
-                pump.unread(half);
-                return;
+    clock: C,
+    refused: u64,
+    ghost capped: { refused ≤ count_limit },
+}
+
+impl<
+    's,
+    E,
+    R: Threads + Wait + Sync + 's,
+    S: Spawner + Drop + 's,
+    C: Clock + Another + Send + Drop + 's,
+> ScopeKeepers<'s, E, R, S, C> {
+    // Starts a keeper for a half. Where its thread cannot be had, a half is handed back, this one or another one, unless a keeper
+    // that began before took it up.
+    fn start(&mut self, half: UnreadHalf<S::ChildOut>) -> Result<(), UnreadHalf<S::ChildOut>>
+        ensures { HasCause self.old.refused self.new.refused result }
+    {
+        let gave = begin(
+            self.rt,
+            self.alloc,
+            self.scope,
+            self.room,
+            self.shelf,
+            &self.clock,
+            half,
+        );
+        match gave {
+            Ok(()) | Err(None) => Ok(()),
+            Err(Some(back)) => {
+                self.refused = raised(self.refused);
+                Err(back)
             }
         }
     }
-    unreachable!()
+
+    // Starts a keeper for each half that the pump holds, up to one whose thread cannot be had: the pump holds on to that. Returns
+    // whether there is one.
+    fn hand_out<K: RewriterCalls>(&mut self, pump: &mut RewritePump<S, K>) -> bool
+        ensures hands { HandsOut pump.old pump.new }
+        ensures refused { result ≡ true → Rose self.old.refused self.new.refused }
+    {
+        let held = pump.readers.len();
+        for _ in 0..held {
+            let Some(half) = pump.reader() else {
+                return false;
+            };
+            if let Err(back) = self.start(half) {
+                pump.unread(back);
+                return true;
+            }
+        }
+        false
+    }
+
+    // Hands out the halves that the pump holds, and then has it make a turn, which may end a process that has waited.
+    fn round<K: RewriterCalls, T: Clock>(
+        &mut self,
+        pump: &mut RewritePump<S, K>,
+        clock: &mut T,
+    ) -> RoundEnd
+        ensures { IsRound S.ChildOut.faults
+            (half_tells S.ChildIn.contents S.ChildIn.faults S.ChildIn.closed)
+            (record {
+              before = pump.old;
+              now = pump.new;
+              refused_before = self.old.refused;
+              refused_now = self.new.refused;
+              moments_before = T.moments clock.old;
+              moments_now = T.moments clock.new;
+            }) result }
+    {
+        let is_refused = self.hand_out(pump);
+        let now = clock.now();
+        pump.turn_and_end(is_refused, now)
+    }
 }
 
-// Ends a process whose half the pump holds still, since no keeper is to be had: nobody would hear it. Answers whether there was
-// one.
-fn end_unread<S: Spawner + Drop, K: RewriterCalls>(pump: &mut RewritePump<S, K>) -> bool {
-    let Some(half) = pump.reader() else {
-        return false;
-    };
-    pump.unkept(&half);
-    true
-}
-
-// Performs turns until no more is to be done, and starts a keeper for each process that was started. A process without one is
-// ended where nothing else is due: by then it was asked what it can be asked, so each of these questions is answered by its end.
+// Makes rounds until no more is to be done. How often an act may have become due is read before each: what changes later wakes the
+// pump. While a process waits for its keeper's thread it is tried again after each pause.
 fn turns<
     's,
     E,
@@ -102,31 +151,42 @@ fn turns<
     words: Texts,
 ) {
     let mut pump = RewritePump::new(alloc, spawner, LockRewriter::new(rt, room), words);
+    let mut keepers: ScopeKeepers<E, R, S, C> = ScopeKeepers {
+        rt,
+        alloc,
+        scope,
+        room,
+        shelf,
+        clock: clock.another(),
+        refused: 0,
+    };
     for _ in rt.forever() {
         let seen = room.changes(rt);
         if let Some(proc) = shelf.ended(rt) {
             pump.ended(proc);
             continue;
         }
-        hand_out(rt, alloc, scope, room, shelf, &clock, &mut pump);
-        match pump.turn() {
-            RewriterTurn::Acted(_) => {}
-            RewriterTurn::Idle => {
-                if end_unread(&mut pump) {
-                    continue;
+        match keepers.round(&mut pump, &mut clock) {
+            RoundEnd::Worked => {}
+            RoundEnd::Held => {
+                if room.is_done(rt) {
+                    return;
                 }
+                clock.pause();
+            }
+            RoundEnd::Idle => {
                 if room.wait_due(rt, seen) {
                     return;
                 }
             }
-            RewriterTurn::WantOfMemory => clock.pause(),
+            RoundEnd::WantOfMemory => clock.pause(),
         }
     }
 }
 
 /// Performs the acts of the rewriter behind its lock until no more is to be done, with processes of the program of these
-/// words; then it stops them all, and returns once every keeper has. A process whose keeper is not to be had is ended as if
-/// it had died.
+/// words; then it stops them all, and returns once every keeper has. A keeper whose thread cannot be had is tried again for as
+/// long as a process may owe an answer; then its process is ended as if it had died.
 pub fn rewrite_all<
     'x,
     R: Threads + Wait + Sync,

@@ -9,30 +9,64 @@ use crate::acts::RewriteAct;
 use crate::faults::RewriteFault;
 use crate::rewriters::Rewriter;
 use crate::rewritings::Rewriting;
-use sq_base::{Addr, ProcNo, QuestionNo, Request};
+use crate::sleepers::Sleepers;
+use sq_base::{Addr, ProcNo, QuestionNo, Request, WantOfMemory};
 use sq_farm::Got;
 use std::alloc::Global;
 
 /// A rewriter, how often an act of it may have become due or a keeper have ended, how often a question to it may have ended,
-/// and whether no more is to be done. Both counts go round at 2^64.
+/// the sessions that sleep meanwhile, and whether no more is to be done. Both counts go round at 2^64.
 #[derive(Drop)]
 pub struct RewriterHall {
     rewriter: Rewriter,
     changes: u64,
     ends: u64,
+    sleepers: Sleepers,
     done: bool,
 }
 
 impl RewriterHall {
-    /// This rewriter, of which more is to be done.
-    pub fn new(rewriter: Rewriter) -> RewriterHall
-        ensures { result.rewriter ≡ rewriter }
+    /// This rewriter, of which more is to be done, with places for so many sessions that sleep.
+    pub fn new(
+        alloc: Global,
+        rewriter: Rewriter,
+        places: usize,
+    ) -> Result<RewriterHall, WantOfMemory>
+        ensures { IfOk result (λ hall. hall.rewriter ≡ rewriter) }
     {
-        RewriterHall {
+        let sleepers = Sleepers::new(alloc, places)?;
+        Ok(RewriterHall {
             rewriter,
             changes: 0,
             ends: 0,
+            sleepers,
             done: false,
+        })
+    }
+
+    // Gives a place to a session that is about to sleep until this question has ended.
+    pub(crate) fn add_sleeper(&mut self, question: QuestionNo) -> Option<usize>
+        ensures rewriter { self.new.rewriter ≡ self.old.rewriter }
+        ensures changes { self.new.changes ≡ self.old.changes }
+        ensures ends { self.new.ends ≡ self.old.ends }
+    {
+        self.sleepers.add(question)
+    }
+
+    // The session that waits for this question has woken.
+    pub(crate) fn remove_sleeper(&mut self, question: QuestionNo)
+        ensures rewriter { self.new.rewriter ≡ self.old.rewriter }
+        ensures changes { self.new.changes ≡ self.old.changes }
+        ensures ends { self.new.ends ≡ self.old.ends }
+    {
+        self.sleepers.remove(question);
+    }
+
+    // The place of the session that sleeps until a question has ended to which a line replied.
+    pub(crate) fn sleeper_after(&self, gave: &Result<Got, RewriteFault>) -> Option<usize> {
+        match gave {
+            Ok(Got::Reply(question, _)) => self.sleepers.place_of(*question),
+            Ok(Got::Bad) | Ok(Got::Stray) | Err(_) => None,
         }
     }
 

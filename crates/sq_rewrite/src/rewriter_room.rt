@@ -4,50 +4,71 @@
 use crate::acts::RewriteAct;
 use crate::faults::RewriteFault;
 use crate::rewriter_hall::RewriterHall;
+use crate::rewriters::Rewriter;
 use crate::rewritings::Rewriting;
-use sq_base::{Addr, ProcNo, QuestionNo, Request};
+use sq_base::{Addr, ProcNo, QuestionNo, Request, WantOfMemory};
 use sq_farm::Got;
 use std::alloc::Global;
-use std::array;
 use std::sync::{Condvar, Mutex, Wait};
 
-/// The rewriter behind its lock, and where threads sleep: a session at the place of the question that it waits for, the
-/// pump at `due` until an act may be due.
+/// The rewriter behind its lock, and where threads sleep: each session at a place of its own, or at `others` where there are
+/// more of them than places, the pump at `due` until an act may be due.
 #[derive(Drop)]
 pub struct RewriterRoom {
     hall: Mutex<RewriterHall>,
-    answered: [Condvar; 64],
+    answered: Vec<Condvar>,
+    others: Condvar,
     due: Condvar,
 }
 
 impl RewriterRoom {
-    /// A lock round this value.
-    pub fn new(hall: RewriterHall) -> RewriterRoom {
-        RewriterRoom {
-            hall: Mutex::new(hall),
-            answered: array::from_fn(|_place| Condvar::new()),
-            due: Condvar::new(),
+    /// A lock round this rewriter, with a place for each of so many workers.
+    pub fn new(
+        alloc: Global,
+        rewriter: Rewriter,
+        workers: u32,
+    ) -> Result<RewriterRoom, WantOfMemory> {
+        let places = workers as usize;
+        let hall = RewriterHall::new(alloc, rewriter, places)?;
+        let mut answered = Vec::new(alloc);
+        answered.reserve(places)?;
+        for _ in 0..places {
+            answered.push_reserved(Condvar::new());
         }
+        Ok(RewriterRoom {
+            hall: Mutex::new(hall),
+            answered,
+            others: Condvar::new(),
+            due: Condvar::new(),
+        })
     }
 
-    // Where the sessions sleep that wait for this question.
-    fn place(&self, question: QuestionNo) -> &Condvar {
-        &self.answered[(question.0 % 64) as usize]
+    // Where the session sleeps that was given this place.
+    fn place(&self, place: Option<usize>) -> &Condvar {
+        match place {
+            None => &self.others,
+            Some(place) => match self.answered.get(place) {
+                None => &self.others,
+                Some(condition) => condition,
+            },
+        }
     }
 
     // Wakes the pump, and all sessions: any question may have ended.
     fn wake_all(&self) {
-        for place in &self.answered {
-            place.notify_all();
+        for condition in &self.answered {
+            condition.notify_all();
         }
+        self.others.notify_all();
         self.due.notify_all();
     }
 
-    // After a line of a process: who waits for the question that it replied to learns it, or all where it ended the process.
-    fn wake_after_line(&self, gave: &Result<Got, RewriteFault>) {
+    // After a line of a process: the session that waits for the question that it replied to learns it, or all sessions where it ended
+    // the process.
+    fn wake_after_line(&self, gave: &Result<Got, RewriteFault>, place: Option<usize>) {
         match gave {
-            Ok(Got::Reply(question, _)) => {
-                self.place(*question).notify_all();
+            Ok(Got::Reply(_, _)) => {
+                self.place(place).notify_all();
                 self.due.notify_all();
             }
             Ok(Got::Bad) | Ok(Got::Stray) => self.wake_all(),
@@ -106,8 +127,13 @@ impl RewriterRoom {
         proc: ProcNo,
         bytes: &[u8],
     ) -> Result<Got, RewriteFault> {
-        let gave = self.hall.lock(rt).line(alloc, proc, bytes);
-        self.wake_after_line(&gave);
+        let (gave, place) = {
+            let mut hall = self.hall.lock(rt);
+            let gave = hall.line(alloc, proc, bytes);
+            let place = hall.sleeper_after(&gave);
+            (gave, place)
+        };
+        self.wake_after_line(&gave, place);
         gave
     }
 
@@ -125,10 +151,12 @@ impl RewriterRoom {
 
     /// Sleeps, as a session does that waits for this question, until a question may have ended more often than this.
     pub fn wait_answered<R: Wait>(&self, rt: &R, question: QuestionNo, ends: u64) {
-        let guard = self.hall.lock(rt);
-        let _guard = self
-            .place(question)
+        let mut guard = self.hall.lock(rt);
+        let place = guard.add_sleeper(question);
+        let mut guard = self
+            .place(place)
             .wait_while(rt, guard, |hall| hall.ends() == ends);
+        guard.remove_sleeper(question);
     }
 
     /// Sleeps, as the pump does, until acts may have become due more often than this, or no more is to be done. Answers whether
@@ -139,6 +167,11 @@ impl RewriterRoom {
             hall.changes() == seen && !hall.is_done()
         });
         guard.is_done()
+    }
+
+    /// Whether no more is to be done.
+    pub fn is_done<R: Wait>(&self, rt: &R) -> bool {
+        self.hall.lock(rt).is_done()
     }
 
     /// A keeper has ended, and the pump learns it.

@@ -10,7 +10,7 @@ use crate::faults::RewriteFault;
 use crate::pump::RewritePump;
 use crate::turns::{RewriterTurn, StartedHalves};
 use crate::unread::UnreadHalf;
-use sq_base::{ProcNo, QuestionNo, Text};
+use sq_base::{Moment, ProcNo, QuestionNo, Text};
 use sq_keeper::SendEnd;
 use sq_outside::{Failed, Out, Spawner};
 
@@ -19,9 +19,9 @@ where
     S::ChildIn: Drop,
 {
     // This process was started.
-    fn admit(&mut self, from: S::ChildOut, mut to: S::ChildIn) -> RewriterTurn
+    fn admit(&mut self, from: S::ChildOut, mut to: S::ChildIn, now: Moment) -> RewriterTurn
         requires { self.old.left ≡ None }
-        ensures notes { NotesProcess from to (step self.old result self.new) }
+        ensures notes { NotesProcess from to (step now self.old result self.new) }
         ensures spawner { SpawnerStays self.old self.new }
         ensures words { self.new.words ≡ self.old.words }
     {
@@ -32,7 +32,7 @@ where
         match self.rewriter.started(self.alloc) {
             Ok(proc) => {
                 self.pipes.put(proc, to);
-                self.readers.push_reserved(UnreadHalf::new(proc, from));
+                self.readers.push_reserved(UnreadHalf::new(proc, now, from));
                 RewriterTurn::Acted(RewriteAct::Start)
             }
             Err(RewriteFault::WantOfMemory) => {
@@ -47,16 +47,16 @@ where
     }
 
     // Starts a process. Halves that were closed are let go of.
-    fn start(&mut self) -> RewriterTurn
+    fn start(&mut self, now: Moment) -> RewriterTurn
         requires { self.old.left ≡ None }
         ensures starts { StartsProcess S.ChildOut.faults
             (half_tells S.ChildIn.contents S.ChildIn.faults S.ChildIn.closed)
-            (step self.old result self.new) }
+            (step now self.old result self.new) }
         ensures words { self.new.words ≡ self.old.words }
     {
         self.pipes.sweep();
         match self.spawner.start(self.alloc, self.words.as_slice()) {
-            Ok((from, to)) => self.admit(from, to),
+            Ok((from, to)) => self.admit(from, to, now),
             Err(Failed) => {
                 let _gave = self.rewriter.start_failed();
                 RewriterTurn::Acted(RewriteAct::Start)
@@ -68,8 +68,8 @@ where
     fn stop(&mut self, proc: ProcNo) -> RewriterTurn
         requires { self.old.left ≡ None }
         ensures stops { StopsProcess
-            (half_tells S.ChildIn.contents S.ChildIn.faults S.ChildIn.closed) proc
-            (step self.old result self.new) }
+            (half_tells S.ChildIn.contents S.ChildIn.faults S.ChildIn.closed) proc self.old result
+            self.new }
         ensures words { self.new.words ≡ self.old.words }
     {
         self.pipes.stop(proc);
@@ -87,7 +87,7 @@ where
         requires { self.old.left ≡ None }
         ensures sends { SendsQuestion
             (half_tells S.ChildIn.contents S.ChildIn.faults S.ChildIn.closed) proc question channel
-            text (step self.old result self.new) }
+            text self.old result self.new }
         ensures words { self.new.words ≡ self.old.words }
     {
         match self.pipes.send(proc, channel, text.as_bytes()) {
@@ -105,11 +105,11 @@ where
     }
 
     // Performs an act.
-    fn perform(&mut self, act: RewriteAct) -> RewriterTurn
+    fn perform(&mut self, act: RewriteAct, now: Moment) -> RewriterTurn
         requires { self.old.left ≡ None }
         ensures performs { PerformsAct S.ChildOut.faults
             (half_tells S.ChildIn.contents S.ChildIn.faults S.ChildIn.closed) act
-            (step self.old result self.new) }
+            (step now self.old result self.new) }
         ensures words { self.new.words ≡ self.old.words }
     {
         match act {
@@ -120,37 +120,37 @@ where
                 channel,
                 text,
             } => self.send(proc, question, channel, text),
-            RewriteAct::Start => self.start(),
+            RewriteAct::Start => self.start(now),
         }
     }
 
     // Takes the act that is due, and performs it.
-    fn begin(&mut self) -> RewriterTurn
+    fn begin(&mut self, now: Moment) -> RewriterTurn
         requires { self.old.left ≡ None }
         ensures begins { BeginsAct S.ChildOut.faults
             (half_tells S.ChildIn.contents S.ChildIn.faults S.ChildIn.closed)
-            (step self.old result self.new) }
+            (step now self.old result self.new) }
         ensures words { self.new.words ≡ self.old.words }
     {
         match self.rewriter.act() {
-            Some(act) => self.perform(act),
+            Some(act) => self.perform(act, now),
             None => RewriterTurn::Idle,
         }
     }
 
-    /// Performs one act that is due, or goes on with the process that an earlier turn left.
-    pub fn turn(&mut self) -> RewriterTurn
+    /// Performs one act that is due, or goes on with the process that an earlier turn left, at this moment.
+    pub fn turn(&mut self, now: Moment) -> RewriterTurn
         ensures turns { TurnsFrom S.ChildOut.faults
             (half_tells S.ChildIn.contents S.ChildIn.faults S.ChildIn.closed) self.old.left
-            (step self.old result self.new) }
+            (step now self.old result self.new) }
         ensures words { self.new.words ≡ self.old.words }
     {
         match self.left.take() {
             Some(halves) => {
                 let StartedHalves { from, to } = halves;
-                self.admit(from, to)
+                self.admit(from, to, now)
             }
-            None => self.begin(),
+            None => self.begin(now),
         }
     }
 }

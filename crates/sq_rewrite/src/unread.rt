@@ -3,28 +3,40 @@ ghost use Rattle.std.specs.Prelude.{◌≡◌, ◌≤◌};
 ghost use Rattle.std.specs.Io.KnownBytes.{IsAtEnd};
 ghost use Rattle.sq_keeper.specs.Lines.{ReadsLines};
 ghost use Rattle.sq_outside.specs.Causes.{Rose};
-ghost use Rattle.sq_rewrite.specs.LineViews.{half_from, half_proc};
+ghost use Rattle.sq_rewrite.specs.LineViews.{half_from, half_proc, half_since};
+ghost use Rattle.sq_rewrite.specs.PumpRounds.{has_waited};
 
-use sq_base::ProcNo;
+use sq_base::{Moment, ProcNo};
 use sq_keeper::{KeeperEnd, LineDesk, read_lines};
 use sq_outside::Source;
 use std::alloc::Global;
 use std::sync::Wait;
 
-/// The half of a process that is read, with the number that the rewriter gave for it. A pump makes it as it notes the start, and
-/// the two are never parted: what is read of the half is handed on as of this process.
+// A process may owe an answer for so many milliseconds. The adapter that starts it ends it then, where a keeper reads it.
+const ANSWER_TIME: u64 = 60_000;
+
+/// The half of a process that is read, with the number that the rewriter gave for it, and the moment at which its start was
+/// noted. A pump makes it then, and the parts stay together: what is read of the half is handed on as of this process.
 #[derive(Drop)]
 pub struct UnreadHalf<P> {
     proc: ProcNo,
+    since: Moment,
     from: P,
 }
 
 impl<P> UnreadHalf<P> {
-    // The half of the process of this number.
-    pub(crate) fn new(proc: ProcNo, from: P) -> UnreadHalf<P>
-        ensures { result ≡ record { proc = proc; from = from } }
+    // The half of the process of this number, whose start was noted at this moment.
+    pub(crate) fn new(proc: ProcNo, since: Moment, from: P) -> UnreadHalf<P>
+        ensures { result ≡ record { proc = proc; since = since; from = from } }
     {
-        UnreadHalf { proc, from }
+        UnreadHalf { proc, since, from }
+    }
+
+    // Whether its process has run for as long as it may owe an answer.
+    pub(crate) fn has_waited(&self, now: Moment) -> bool
+        ensures { result ≡ has_waited (half_since self.now) now }
+    {
+        now.0.saturating_sub(self.since.0) >= ANSWER_TIME
     }
 
     /// The number of its process.
