@@ -1,5 +1,5 @@
 -- Bytes that are read behind others.
-use Rattle.std.proofs.Common.{◌≡◌, ℕ, ◌+◌, ◌-◌, ◌≤◌, List, ◌++◌, take, drop, Option, Some, None, sym, ap, ◌∙◌, arith, append_assoc, append-nil}
+use Rattle.std.proofs.Common.{◌≡◌, ℕ, ◌+◌, ◌-◌, ◌≤◌, List, ◌++◌, take, drop, Option, Some, None, IfSome, IfNone, sym, ap, subst, ◌∙◌, arith, append_assoc, append-nil}
 use Rattle.std.proofs.lemmas.List.{drop-drop, drop-take}
 use Rattle.std.proofs.Math.Seq.{take-add}
 use Rattle.std.specs.Io.KnownBytes.{Consumes, Keeps, prepend_known}
@@ -56,3 +56,11 @@ dropped s e n bytes ahead h within is =
     ∙ ap (take (e - s - n)) (sym (drop-drop n s bytes ∙ ap (λ k. drop k bytes) (omega arith)))
     ∙ sym (drop-take n (e - s - n) (drop s bytes))
     ∙ ap (λ k. drop n (take k (drop s bytes))) cut ∙ ap (drop n) is
+
+-- what holds of a count that came
+pub of_some : (P : ℕ → Type 0) {came : Option ℕ} {n : ℕ} → came ≡ Some n → IfSome came P → P n
+of_some P is h = subst (λ o. IfSome o P) is h
+
+-- what holds where none came
+pub of_none : (P : Type 0) {came : Option ℕ} → came ≡ None → IfNone came P → P
+of_none P is h = subst (λ o. IfNone o P) is h

@@ -11,14 +11,12 @@ read_limit = 16384
 abbrev pub large_read_limit : ℕ
 large_read_limit = 65536
 
--- the bytes stand in it from one place to another, with few before them and few behind; the spare
--- room is no more than for one read
-pub record IsBuffer (bytes : List ℕ) (start end : ℕ) (spare : List ℕ) : Type 0 where
+-- the bytes stand in it from one place to another, with few before them and few behind
+pub record IsBuffer (bytes : List ℕ) (start end : ℕ) : Type 0 where
   pub ordered : start ≤ end
   pub within : end ≤ length bytes
   pub before : start < read_limit
   pub behind : length bytes ≤ end + large_read_limit
-  pub small : length spare ≤ large_read_limit
 
 -- some bytes came; or none did, and the source has none left
 abbrev pub Filled : List ℕ → List ℕ → Option (List ℕ) → Bool → Type 0

@@ -11,7 +11,7 @@ use crate::meter::Meter;
 use crate::paying::{Unpaid, pay};
 use sq_base::{BodyPlan, Text};
 use sq_message::{BodyCursor, Fed, FeedFault};
-use sq_outside::{Sink, Source, Unread};
+use sq_outside::{Expected, Sink, Source, Unread};
 use std::alloc::Global;
 use std::mem;
 use std::sync::Wait;
@@ -62,8 +62,9 @@ pub(crate) fn copy_body<R: Wait, S: Source, O: Sink, M: Meter>(
 {
     let mut cursor = BodyCursor::new(alloc, plan, chunked_out);
     let mut framed = Text::new(alloc);
+    let mut line = 0;
     for _ in rt.forever() {
-        match copy_piece(alloc, &mut cursor, from, to, meter, &mut framed) {
+        match copy_piece(alloc, &mut cursor, &mut line, from, to, meter, &mut framed) {
             None => {}
             Some(copied) => return copied,
         }
@@ -71,10 +72,22 @@ pub(crate) fn copy_body<R: Wait, S: Source, O: Sink, M: Meter>(
     unreachable!()
 }
 
+// What is expected next, where that is another than before: data, or a line of which `len` bytes have come. `line` remembers how many of
+// one had come so many bytes ago.
+fn next_expected(line: &mut usize, len: usize, more: usize) -> Option<Expected> {
+    match mem::replace(line, len) {
+        0 if len == 0 => None,
+        _ if len == 0 => Some(Expected::Data),
+        before if before > 0 && before.saturating_add(more) == len => None,
+        _ => Some(Expected::Line),
+    }
+}
+
 // Writes what the bytes ahead give, and reads the next ones. None: the body goes on.
 fn copy_piece<S: Source, O: Sink, M: Meter>(
     alloc: Global,
     cursor: &mut BodyCursor,
+    line: &mut usize,
     from: &mut Half<S>,
     to: &mut O,
     meter: &mut M,
@@ -97,16 +110,17 @@ fn copy_piece<S: Source, O: Sink, M: Meter>(
     ensures origin { S.origin from.new.source ≡ S.origin from.old.source }
     ensures few { length from.new.ahead ≤ max (length from.old.ahead) large_read_limit }
 {
-    match write_ahead(alloc, cursor, from.ahead.as_bytes(), to, meter, framed) {
+    let next = match write_ahead(alloc, cursor, from.ahead.as_bytes(), to, meter, framed) {
         Ok(fed) => {
             from.drop_front(fed.used);
             if fed.done {
                 return Some(Copied::Whole);
             }
+            next_expected(line, cursor.line_len(), fed.used)
         }
         Err(copied) => return Some(copied),
-    }
-    match fill(from, meter.is_seated()) {
+    };
+    match fill(from, next, meter.is_seated()) {
         Ok(true) => None,
         Ok(false) => Some(Copied::Cut),
         Err(Unread::Failed) => Some(Copied::NoSource),
@@ -114,14 +128,17 @@ fn copy_piece<S: Source, O: Sink, M: Meter>(
     }
 }
 
-// Reads the next bytes: fewer at a time on a seat, where they wait for grants.
-fn fill<S: Source>(from: &mut Half<S>, seated: bool) -> Result<bool, Unread>
+// Reads the next bytes: fewer at a time on a seat, where they wait for grants. The source hears what they are.
+fn fill<S: Source>(from: &mut Half<S>, next: Option<Expected>, seated: bool) -> Result<bool, Unread>
     ensures kept { Keeps (to_come S.left from.old) (to_come S.left from.new) }
     ensures filled { IfOk result (Filled from.old.ahead from.new.ahead (S.left from.new.source)) }
     ensures few { length from.new.ahead ≤ length from.old.ahead + large_read_limit }
     ensures origin { S.origin from.new.source ≡ S.origin from.old.source }
     ensures cause { ReadHasCause (S.faults from.old.source) (S.faults from.new.source) result }
 {
+    if let Some(next) = next {
+        from.source.expect(next);
+    }
     if seated {
         from.fill()
     } else {

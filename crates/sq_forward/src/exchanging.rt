@@ -43,7 +43,8 @@ pub enum Exchanged {
     WantOfMemory,
 }
 
-// The exchange, over the facts of the request's check.
+// The exchange, over the facts of the request's check. Its locals are no part of a tunnel's stack.
+#[inline(never)]
 fn exchange_by<R: Wait, C: Ends, O: Ends, M: Meter>(
     rt: &R,
     alloc: Global,

@@ -55,7 +55,7 @@ fn take_head<R: Wait, P: Source>(
     ensures few { length origin.new.ahead
         ≤ max (length origin.old.ahead) (most_bytes + read_limit) }
 {
-    let len = match find_head(rt, origin) {
+    let len = match find_head(rt, origin, true) {
         HeadFound::Whole(len) => len,
         HeadFound::TooLarge => return Err(NoHead::Missing),
         HeadFound::Ended => return Err(NoHead::Missing),

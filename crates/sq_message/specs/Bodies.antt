@@ -120,6 +120,14 @@ abbrev pub kept_bytes : BodyState → ℕ
 kept_bytes (Line text) = length text
 kept_bytes p = 0
 
+-- how many bytes have come of a line that has not ended: of a chunk's, or of the trailers, which
+-- the end of the last chunk's line begins
+abbrev pub line_bytes : BodyState → ℕ
+line_bytes (Line text) = length text
+line_bytes Feed = 1
+line_bytes (Trailer n m) = n + 1
+line_bytes p = 0
+
 -- where bytes lead, what is written at them, and what is left behind the body; nothing is left of
 -- refused bytes
 pub record Walk : Type 0 where

@@ -1,6 +1,6 @@
 //! `BodyCursor`: the body of a message, in pieces.
 ghost use Rattle.std.specs.Prelude.{◌≡◌, ◌+◌, ◌≤◌, ℕ, List, [], length, take, false, true, is_some, IfOk, OnErr, IsErrOf, IfSome};
-ghost use Rattle.sq_message.specs.Bodies.{start, is_whole_body, is_refused, kept_bytes, line_limit};
+ghost use Rattle.sq_message.specs.Bodies.{start, is_whole_body, is_refused, kept_bytes, line_bytes, line_limit};
 ghost use Rattle.sq_message.specs.Feeding.{is_sound, WroteOfBody, Feeds, Spoils, Follows, Joins, JoinsBad, Passes, is_data};
 ghost use Rattle.sq_base.specs.declared.plans.BodyPlan.{BodyPlan};
 
@@ -99,6 +99,18 @@ impl BodyCursor {
         BodyCursor {
             place,
             chunked: chunked_out,
+        }
+    }
+
+    /// How many bytes have come of a line that has not ended: of a chunk's, or of the trailers. It takes no memory.
+    pub fn line_len(&self) -> usize
+        ensures { result ≡ line_bytes self.now.place }
+    {
+        match &self.place {
+            BodyState::Line(text) => text.len(),
+            BodyState::Feed => 1,
+            BodyState::Trailer(count, _) => *count as usize + 1,
+            _ => 0,
         }
     }
 

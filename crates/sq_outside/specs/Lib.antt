@@ -4,6 +4,7 @@ pub mod Dials
 pub mod Holding
 pub mod Input
 pub mod Output
+pub mod Soon
 pub mod SourceLines
 pub mod Told
 pub mod World

@@ -28,5 +28,5 @@ pub use lines::{LINE_LIMIT, LineFound, TOTAL_LIMIT, next_line, next_line_within}
 pub use links::{Accepted, Dialer, LinkUse, Listener, Out};
 pub use net::{Net, Parts, Stopper};
 pub use output::{write_all, write_line};
-pub use traits::{Failed, Files, NoOpen, Sink, Source};
+pub use traits::{Expected, Failed, Files, NoOpen, Sink, Source};
 pub use world::{Another, Clock, LookFault, Resolver, Spawner};

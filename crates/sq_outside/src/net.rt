@@ -41,8 +41,8 @@ pub trait Net: Sized {
     /// How often it has failed, and how many listeners came back that had failed.
     ghost faults: { Self → ℕ };
 
-    /// Opens it: the listener accepts links at this port, and begins with the count 0.
-    fn parts(&mut self, alloc: Global, port: u16) -> Result<Parts<Self>, Failed>
+    /// Opens it for so many workers: the listener accepts links at this port, and begins with the count 0.
+    fn parts(&mut self, alloc: Global, port: u16, workers: u32) -> Result<Parts<Self>, Failed>
         ensures fresh { IfOk result (λ p. Self.L.faults p.listener ≡ 0) }
         ensures cause { HasCause (faults self.old) (faults self.new) result };
 

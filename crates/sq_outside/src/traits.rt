@@ -5,6 +5,7 @@ ghost use Rattle.std.specs.Io.{ReadsAtMost, WritesAtMost};
 ghost use Rattle.std.specs.Io.KnownBytes.{ReadConsumes, WriteAppends};
 ghost use Rattle.sq_outside.specs.Causes.{HasCause, OpenHasCause, TakesBack, count_limit};
 ghost use Rattle.sq_outside.specs.Dials.{Origin};
+ghost use Rattle.sq_outside.specs.Soon.{CameAtMost, CameConsumes};
 ghost use Rattle.sq_outside.specs.Told.{Texts, GivesText, IsNotTold, Openings, Opens};
 
 use sq_base::{Text, WantOfMemory};
@@ -40,6 +41,19 @@ impl From<WantOfMemory> for NoOpen {
     }
 }
 
+/// What a reader expects next of its source.
+#[derive(Clone, Copy, PartialEq, Eq)]
+pub enum Expected {
+    /// The first byte of a message, which may take as long as it likes.
+    Nothing,
+    /// More of a head.
+    Head,
+    /// A line of a chunk, or a trailer.
+    Line,
+    /// The bytes of a body or of a tunnel.
+    Data,
+}
+
 /// What bytes are read from, in pieces.
 pub trait Source {
     /// The bytes that reads will give from here on, where the source tells them.
@@ -57,6 +71,27 @@ pub trait Source {
         ensures bytes { ReadConsumes (left self.old) (left self.new) result into.new }
         ensures origin { origin self.new ≡ origin self.old }
         ensures cause { HasCause (faults self.old) (faults self.new) result };
+
+    /// Reads some bytes, as `read` does. Where none came for some seconds it answers None, and none was read.
+    fn read_soon(&mut self, into: &mut [u8]) -> Result<Option<usize>, Failed>
+        ensures bound { CameAtMost result into.new }
+        ensures bytes { CameConsumes (left self.old) (left self.new) result into.new }
+        ensures origin { origin self.new ≡ origin self.old }
+        ensures cause { HasCause (faults self.old) (faults self.new) result }
+    {
+        match self.read(into) {
+            Ok(count) => Ok(Some(count)),
+            Err(Failed) => Err(Failed),
+        }
+    }
+
+    /// Hears what its reader expects from now on, so that it can limit the time for that. It reads nothing. Until the first
+    /// call data is expected.
+    fn expect(&mut self, _what: Expected)
+        ensures left { left self.new ≡ left self.old }
+        ensures origin { origin self.new ≡ origin self.old }
+        ensures faults { faults self.new ≡ faults self.old }
+    {}
 
     ghost capped: { (source : Self) → faults source ≤ count_limit };
 }

@@ -115,7 +115,12 @@ impl<'a> Net for MemNet<'a> {
 
     ghost capped = { λ n. n.calls.capped };
 
-    fn parts(&mut self, _alloc: Global, port: u16) -> Result<Parts<MemNet<'a>>, Failed>
+    fn parts(
+        &mut self,
+        _alloc: Global,
+        port: u16,
+        _workers: u32,
+    ) -> Result<Parts<MemNet<'a>>, Failed>
         ensures fresh { IfOk result (λ p. listener_faults p.listener ≡ 0) }
         ensures cause { HasCause (net_faults self.old) (net_faults self.new) result }
         // It hands out its parts, and keeps the port.

@@ -56,7 +56,8 @@ pub(crate) fn turn<R: Threads + Wait + Sync, C: Ends, F: Front, D: Dialer>(
     }
 }
 
-// Answers a request, whose body is the next to come.
+// Answers a request, whose body is the next to come. Its locals are no part of the stack on which the next one is waited for.
+#[inline(never)]
 fn answer<R: Threads + Wait + Sync, C: Ends, F: Front, D: Dialer>(
     rt: &R,
     alloc: Global,

@@ -181,16 +181,3 @@ reaches {first = Some rest} {before} {now = Some d} {written} {written_back} {by
       known = λ unasked. reached access r addr p rest unasked before mid d origin origin_back came written written_back
           bytes m there same at back f.known fault;
     }
-
--- the same of the client's bytes to come, and of those that are left, in other words
-pub reaches_as : {first same_first left same_left : Option (List ℕ)} {before now : Option Dialled} {seated : Bool}
-    {a b : Option (List ℕ)} {failed : Type 0} {g h : ℕ} {ended : Carried}
-    {access : HeaderAccess} {r : HttpRequest} {addr : Address} {p : BodyPlan}
-    → same_first ≡ first → left ≡ same_left
-    → ReachesTold access (message r addr p) same_first seated (turn_seen same_left a b g h before) now failed ended
-    → ReachesTold access (message r addr p) first seated (turn_seen left a b g h before) now failed ended
-reaches_as {same_first} {left} {before} {now} {seated} {a} {b} {failed} {g} {h} {ended} {access} {r} {addr} {p} e f
-    told =
-    subst (λ l. ReachesTold access (message r addr p) l seated (turn_seen left a b g h before) now failed ended) e
-    (subst (λ l. ReachesTold access (message r addr p) same_first seated (turn_seen l a b g h before) now failed ended)
-    (sym f) told)

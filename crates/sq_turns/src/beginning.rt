@@ -72,7 +72,7 @@ pub fn next_request<R: Wait, S: Source>(rt: &R, alloc: Global, client: &mut Half
     ensures few { length client.new.ahead
         ≤ max (length client.old.ahead) (most_bytes + read_limit) }
 {
-    let len = match find_head(rt, client) {
+    let len = match find_head(rt, client, false) {
         HeadFound::Whole(len) => len,
         HeadFound::TooLarge => return Begun::TooLarge,
         HeadFound::Ended => return ended(client.ahead.as_bytes()),

@@ -16,7 +16,7 @@ use crate::front::{Front, SitFault};
 use crate::judged::JudgedRequest;
 use crate::own_replies::{is_connect, is_head, is_served, say};
 use sq_base::Request;
-use sq_forward::{Duplex, Ends, Half, Meter};
+use sq_forward::{Ahead, Duplex, Ends, Half, Meter};
 use sq_message::Own;
 use sq_outside::{Dialer, LinkUse};
 use std::alloc::Global;
@@ -125,14 +125,13 @@ fn reach<R: Threads + Wait + Sync, C: Ends, M: Meter, D: Dialer>(
     let mut origin: Duplex<(D::In, D::Outgo)> = Duplex {
         from: Half {
             source: from,
-            ahead: client.from.ahead.lend_room(alloc),
+            ahead: Ahead::new(alloc),
         },
         to,
     };
     let carried = forward(rt, alloc, client, &mut origin, meter, request);
     let Duplex { from, to } = origin;
-    let Half { source, ahead } = from;
-    client.from.ahead.take_room(ahead);
+    let Half { source, ahead: _ } = from;
     dialer.give_back(source, to);
     carried
 }

@@ -4,7 +4,7 @@ use Rattle.sq_base.specs.Requests.{HttpRequest}
 use Rattle.sq_message.specs.declared.own.Own.TheVariants.{BadGateway}
 use Rattle.sq_turns.specs.Turns.{access_of}
 use Rattle.sq_turns.proofs.CarryLaws.{cause_client, cause_reached, reached_rose}
-use Rattle.sq_turns.proofs.PartLaws.{unreached_told, reaches, reaches_as, dialled_told, refused_told, calls_after}
+use Rattle.sq_turns.proofs.PartLaws.{unreached_told, reaches, dialled_told, refused_told, calls_after}
 use Rattle.sq_turns.proofs.OwnReplyLaws.{tells_as}
 use Rattle.sq_turns.proofs.carrying.reach.Goals as goal
 
@@ -24,17 +24,15 @@ returns-in_default-clause-dialled g c = refused_told _ _ c.in_default.ensures.fa
 
 pub returns-clause-told : goal.returns-clause-told
 returns-clause-told g c =
-    reaches_as (ap (λ l. prepend_known l (g.C.In.Source.left c.args.client.now.from.source)) c.lend_room.ensures.same)
-    (ap (λ l. prepend_known l (g.C.In.Source.left c.forward-carried.new.client.from.source)) c.take_room.ensures)
-    (reaches (access_of c.args.request.now.judged.now) c.args.request.now.sent.now c.args.request.now.addr
+    reaches (access_of c.args.request.now.judged.now) c.args.request.now.sent.now c.args.request.now.addr
     c.args.request.now.plan _ _ _ _ _ _
     (ap HttpRequest.host c.sent.view_is)
     (ap HttpRequest.port c.sent.view_is) c.in-Ok.ensures.made c.in-Ok.ensures.reaches
     c.forward-carried.ensures.origin_dialled
-    (ap (λ l. prepend_known l (g.D.In.Source.left c.in-Ok.from)) c.lend_room.ensures.none) c.give_back.ensures.given
+    (ap (λ l. prepend_known l (g.D.In.Source.left c.in-Ok.from)) c.new.ensures) c.give_back.ensures.given
     c.forward-carried.ensures.told
     (λ f. reached_rose _ _ _ _ _ _ _ c.in-Ok.ensures.fresh.0 c.in-Ok.ensures.fresh.1 c.in-Ok.ensures.cause.quiet
-    c.give_back.ensures.cause f))
+    c.give_back.ensures.cause f)
 
 pub returns-clause-cause : goal.returns-clause-cause
 returns-clause-cause g c = cause_reached _ _ _ c.forward-carried.result

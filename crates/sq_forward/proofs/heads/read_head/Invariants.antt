@@ -3,7 +3,7 @@ use Rattle.std.specs.Io.KnownBytes.{Keeps, prepend_known}
 use Rattle.sq_message.specs.ReplyHeads.{most_bytes}
 use Rattle.sq_forward.specs.Halves.{read_limit}
 use Rattle.sq_forward.specs.Searching.{IsSought}
-use Rattle.sq_forward.proofs.heads.find_head.Given as goal
+use Rattle.sq_forward.proofs.heads.read_head.Given as goal
 
 -- all that came is ahead, and was looked at up to the last read
 abbrev pub invariant-loop : goal.invariant-loop

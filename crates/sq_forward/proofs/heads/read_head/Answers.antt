@@ -1,7 +1,7 @@
 use Rattle.std.proofs.Common.{sym, ap, ◌∙◌, arith, length}
 use Rattle.sq_request.specs.Endings.{head_end}
 use Rattle.sq_forward.proofs.FindLaws.{large_by_end, large_by_room}
-use Rattle.sq_forward.proofs.heads.find_head.Goals as goal
+use Rattle.sq_forward.proofs.heads.read_head.Goals as goal
 
 pub returns-then-len-gt-MOST_BYTES-clause-found : goal.returns-then-len-gt-MOST_BYTES-clause-found
 returns-then-len-gt-MOST_BYTES-clause-found g c =
