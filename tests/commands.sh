@@ -85,7 +85,7 @@ says 1 "$usage" rehearse 4 4
 says 1 "$usage" verify c
 says 1 "$usage" serve
 says 1 "$usage" serve c --port 0
-says 1 "$usage" serve c --workers 65
+says 1 "$usage" serve c --workers 4097
 says 1 "$usage" serve c --utc-offset -0
 says 1 "$usage" serve c --port 3129 --port 3129
 says 1 "$usage" serve --port 3129 c

@@ -699,9 +699,9 @@ def no_processes(bench: Bench) -> None:
             bench.same(f"{turn}, a request", bench.get("/"), hello())
             bench.same(f"{turn}, a tunnel", bench.tunnel("/"), GATEWAY if turn == 1 else TUNNEL + THROUGH)
             denied = own("403 Forbidden", f"denied fault 1 known {cause}")
-            # It has as many threads as before (the first, four workers', the pump's), and no process more; and then one more.
-            until(5, lambda: server.value("Threads") == 6)
-            most = 6 + turn
+            # It has as many threads as before (the first, the doorkeeper's, four workers', the pump's), and no process more; and then one more.
+            until(5, lambda: server.value("Threads") == 7)
+            most = 7 + turn
             bench.same(f"{turn}, a helper", bench.get("/ask/a"), denied if turn else hello())
             bench.same(f"{turn}, another request", bench.get("/"), hello())
             bench.same(f"{turn}, its end", bench.ends(server), "stopped status 0")

@@ -234,11 +234,14 @@ def silent_clients(bench: Bench) -> None:
 
 
 def idle_links(bench: Bench) -> None:
-    """160 idle connections and 40 idle tunnels at 64 workers, and 20 clients that work: none of these waits 3 seconds, and no
-    download and no tunnel that is used is cut."""
+    """60 connections and 20 tunnels that have been idle for 10 seconds at 64 workers, and 20 clients that work: none of these waits 3
+    seconds, and no download and no tunnel that is used is cut."""
     server = bench.start(64)
-    idle = [bench.get()[0] for _ in range(160)]
-    tunnels = [bench.tunnel() for _ in range(40)]
+    idle = [bench.get()[0] for _ in range(50)]
+    tunnels = [bench.tunnel() for _ in range(10)]
+    time.sleep(10.2)
+    idle += [bench.get()[0] for _ in range(10)]
+    tunnels += [bench.tunnel() for _ in range(10)]
     longest = 0.0
     cut: list[str] = []
     until = time.monotonic() + 6
@@ -380,15 +383,109 @@ def shutdown(bench: Bench) -> None:
     bench.check("the end of the first", said == "stopped, status 0", said)
 
 
+def count_open(links: list[socket.socket]) -> int:
+    """How many tunnels still carry a line."""
+    return sum(echoes(link, b"line\n") for link in links)
+
+
 def crowded_tunnels(bench: Bench) -> None:
-    """A tunnel that is silent gives way after 10 seconds where it is wanted."""
-    server = bench.start(2)
-    tunnels = [bench.tunnel(), bench.tunnel()]
-    link, took = bench.get()
-    bench.check("a client at silent tunnels", 9 < took < 12, took)
-    for one in [link, *tunnels]:
+    """12 silent tunnels at 8 workers: the last 4 of them wait until 4 of the first have been silent for 10 seconds, and these give way and
+    nobody else. A message says that clients wait."""
+    messages = Path("messages").resolve()
+    os.environ["ACLPROXY_MESSAGES"] = str(messages)
+    server = bench.start(8)
+    del os.environ["ACLPROXY_MESSAGES"]
+    first = [bench.tunnel() for _ in range(8)]
+    begun = time.monotonic()
+    later: list[socket.socket] = []
+    took: list[float] = []
+
+    def come() -> None:
+        later.append(bench.tunnel())
+        took.append(time.monotonic() - begun)
+
+    for one in each(4, come):
+        one.join(PATIENCE)
+    bench.check("four that wait", len(took) == 4 and all(9 < one < 12 for one in took), took)
+    bench.check("as many give way as wait", (count := count_open(first)) == 4, count)
+    bench.check("those that waited are there", (count := count_open(later)) == 4, count)
+    said = messages.read_text() if messages.exists() else ""
+    bench.check("a message", re.fullmatch(r"all 8 workers are in use, and [1-4] clients wait\n", said) is not None, said)
+    for one in first + later:
         one.close()
     bench.check("its end", (said := bench.ends(server)) == "stopped, status 0", said)
+
+
+def drip(link: socket.socket, most: float) -> float:
+    """How long a head whose bytes come one a second goes on, or its limit."""
+    begun = time.monotonic()
+    link.settimeout(1)
+    try:
+        link.sendall(b"GET ")
+        while time.monotonic() < begun + most:
+            try:
+                if not link.recv(1):
+                    break
+            except TimeoutError:
+                link.sendall(b"a")
+    except OSError:
+        pass
+    return time.monotonic() - begun
+
+
+def slow_head(bench: Bench) -> None:
+    """A head whose bytes come one a second ends after a minute."""
+    server = bench.start(2)
+    took = drip(bench.connect(), 70)
+    bench.check("a slow head", 58 < took < 64, took)
+    bench.check("its end", (said := bench.ends(server)) == "stopped, status 0", said)
+
+
+def crowded_heads(bench: Bench) -> None:
+    """Where a client waits for a worker, one head of two whose bytes come one a second ends after 10 seconds, and the other goes on."""
+    server = bench.start(2)
+    took: list[float] = []
+    slow = each(2, lambda: took.append(drip(bench.connect(), 16)))
+    time.sleep(0.5)
+    link, waited = bench.get()
+    bench.check("a client at slow heads", 8.5 < waited < 12.5, waited)
+    link.close()
+    for one in slow:
+        one.join(PATIENCE)
+    took.sort()
+    bench.check("one of them ends", len(took) == 2 and 9 < took[0] < 13 and took[1] > 15, took)
+    bench.check("its end", (said := bench.ends(server)) == "stopped, status 0", said)
+
+
+def many_tunnels(bench: Bench) -> None:
+    """300 silent tunnels at 350 workers beside 20 pages a second for 12 seconds: no page fails or waits a second, and no tunnel is cut."""
+    server = bench.start(350)
+    tunnels = [bench.tunnel() for _ in range(300)]
+    failed: list[str] = []
+    longest = [0.0]
+
+    def page() -> None:
+        try:
+            link, took = bench.get()
+            longest.append(took)
+            link.close()
+        except Exception as what:
+            failed.append(f"{what}")
+
+    until = time.monotonic() + 12
+    pages: list[threading.Thread] = []
+    while time.monotonic() < until:
+        pages += each(1, page)
+        time.sleep(0.05)
+    for one in pages:
+        one.join(PATIENCE)
+    bench.check("pages", len(longest) > 100 and not failed, (len(longest), failed[:3]))
+    bench.check("the longest wait", max(longest) < 1, max(longest))
+    bench.check("tunnels that are there", (count := count_open(tunnels)) == 300, count)
+    for link in tunnels:
+        link.close()
+    bench.check("its end", (said := bench.ends(server)) == "stopped, status 0", said)
+    bench.check("its journal", (said := bench.verify()) == "verified", said)
 
 
 def last_links(bench: Bench) -> None:
@@ -565,8 +662,8 @@ def shortages(bench: Bench) -> None:
 
 
 CHECKS = [silent_clients, idle_links, free_workers, clients_that_leave, shutdown, helpers, unreachable, addresses, shortages]
-# Those that wait most of their time, which are made beside the others.
-SLOW_CHECKS = [crowded_tunnels, last_links]
+# Those that wait most of their time, in groups that are made beside the others and beside one another.
+SLOW_CHECKS = [[slow_head], [crowded_tunnels, last_links], [crowded_heads, many_tunnels]]
 LONG_CHECKS = [silence]
 
 
@@ -593,7 +690,7 @@ def tried(bench: Bench, check: Callable[[Bench], None], folder: str) -> bool:
 def main() -> int:
     global LONG
     parser = argparse.ArgumentParser(description=__doc__, formatter_class=argparse.RawDescriptionHelpFormatter)
-    known = {one.__name__: one for one in CHECKS + SLOW_CHECKS + LONG_CHECKS}
+    known = {one.__name__: one for one in CHECKS + sum(SLOW_CHECKS, []) + LONG_CHECKS}
     parser.add_argument("names", nargs="*", metavar="NAME", help=f"some of: {', '.join(known)}")
     parser.add_argument("--program", default=str(HERE.parent / "crates/sq_main/out/sq_main"))
     parser.add_argument("--long", action="store_true", help="try those, too, that take minutes")
@@ -604,10 +701,10 @@ def main() -> int:
     program = os.path.abspath(options.program)
     if not os.access(program, os.X_OK):
         parser.error(f"{program} is no program: build it first, or name it by --program")
-    beside = None
-    if not options.names:
-        slow = [one.__name__ for one in SLOW_CHECKS]
-        beside = subprocess.Popen([sys.executable, __file__, "--program", program, *slow], stdout=subprocess.PIPE, text=True)
+    beside = []
+    for group in [] if options.names else SLOW_CHECKS:
+        words = [sys.executable, __file__, "--program", program, *[one.__name__ for one in group]]
+        beside.append(subprocess.Popen(words, stdout=subprocess.PIPE, text=True))
     bench = Bench(program)
     top = tempfile.mkdtemp(prefix="links.")
 
@@ -615,8 +712,8 @@ def main() -> int:
         print(f"links, {bench.what}: it has not come to its end in time", flush=True)
         for one in bench.servers:
             one.kill()
-        if beside:
-            beside.kill()
+        for one in beside:
+            one.kill()
         os._exit(1)
 
     signal.signal(signal.SIGALRM, give_up)
@@ -626,10 +723,10 @@ def main() -> int:
             print(f"links, {bench.what}: once more")
             bench.failed += not tried(bench, check, os.path.join(top, f"{check.__name__}-again"))
     os.chdir("/")
-    if beside:
-        said, _ = beside.communicate()
+    for one in beside:
+        said, _ = one.communicate()
         print(said, end="")
-        bench.failed += beside.returncode != 0
+        bench.failed += one.returncode != 0
     if bench.failed:
         print(f"links: what they left stands in {top}")
     else:

@@ -1,5 +1,6 @@
 pub mod Commands
 pub mod Ends
+pub mod Limits
 pub mod Opened
 pub mod Outputs
 pub mod ParseText

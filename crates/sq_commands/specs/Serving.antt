@@ -1,9 +1,10 @@
 -- In the statement: docs/STATEMENT.md lists which definitions.
 -- The words of `serve`.
-use Rattle.std.specs.Prelude.{ℕ, ◌==◌, List, [], ◌∷◌, if◌then◌else◌, Some, None, bytes_eq, codes, option_map, option_and_then}
+use Rattle.std.specs.Prelude.{ℕ, suc, ◌==◌, List, [], ◌∷◌, if◌then◌else◌, Some, None, bytes_eq, codes, option_map, option_and_then}
 use Rattle.std.specs.declared.option.Option.{Option}
 use Rattle.sq_base.specs.Decimals.{number_of, port_limit}
 use Rattle.sq_journal.specs.Reading.{offset_from}
+use Rattle.sq_commands.specs.Limits.{most_workers}
 use Rattle.sq_commands.specs.declared.options.Options.{Options}
 use Rattle.sq_commands.specs.declared.options.Service.{Service}
 
@@ -15,12 +16,9 @@ no_options = record { port = None; workers = None; offset = None }
 abbrev pub above_zero : ℕ → Option ℕ
 above_zero n = if n == 0 then None else Some n
 
+-- the number that the word states, from 1 to the limit
 abbrev pub positive_of : ℕ → List ℕ → Option ℕ
 positive_of limit word = option_and_then above_zero (number_of limit word)
-
--- one more than the workers that there are at most
-abbrev pub worker_limit : ℕ
-worker_limit = 65
 
 -- a value that is stated for the first time
 abbrev pub first : {A : Type 0} → Option A → Option A → Option A
@@ -33,7 +31,7 @@ with_option word value o =
     if bytes_eq word (codes "--port") then option_map (λ n. record o { port = Some n })
     (first o.port (positive_of port_limit value))
     else (if bytes_eq word (codes "--workers") then option_map (λ n. record o { workers = Some n })
-    (first o.workers (positive_of worker_limit value))
+    (first o.workers (positive_of (suc most_workers) value))
     else (if bytes_eq word (codes "--utc-offset") then option_map
     (λ z. record o { offset = Some z }) (first o.offset (offset_from value))
     else None))

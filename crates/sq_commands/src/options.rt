@@ -1,5 +1,6 @@
 //! The words of `serve`.
 ghost use Rattle.std.specs.Prelude.{◌≡◌, ◌<◌, ◌≤◌, IfSome, MatchOption, None, Some};
+ghost use Rattle.sq_commands.specs.Limits.{most_workers};
 ghost use Rattle.sq_commands.specs.Serving.{options_from, positive_of, service_of, shown_service, with_option};
 
 use sq_base::{PORT_LIMIT, Text, number_of};
@@ -7,21 +8,22 @@ use sq_journal::minutes_of;
 use sq_machine::Offset;
 use std::marker::Model;
 
-/// One more than the workers that there are at most.
-const WORKER_LIMIT: u64 = 65;
+/// The most workers that a server has.
+const MOST_WORKERS: u64 = 4_096;
 
-/// How many workers serve connections, from 1 to 64.
+/// How many workers serve connections, from 1 to [`MOST_WORKERS`].
 #[derive(Clone, Copy)]
 pub struct Workers(pub u32);
 
 impl Model for Workers {
     ghost use Rattle.std.specs.Prelude.{ℕ, ◌<◌, ◌≤◌};
+    ghost use Rattle.sq_commands.specs.Limits.{most_workers};
 
     ghost Value = { ℕ };
 
     ghost view = { λ w. w.0 };
 
-    ghost invariant = { λ w. (0 < w.0) × (w.0 ≤ 64) };
+    ghost invariant = { λ w. (0 < w.0) × (w.0 ≤ most_workers) };
 
     ghost inverse = { λ n. record { 0 = n } };
 }
@@ -72,7 +74,7 @@ fn with_option(word: &Text, value: &Text, options: Options) -> Option<Options>
         if options.workers.is_some() {
             return None;
         }
-        options.workers = Some(Workers(positive_of(value, WORKER_LIMIT)? as u32));
+        options.workers = Some(Workers(positive_of(value, MOST_WORKERS + 1)? as u32));
     } else if name == b"--utc-offset".as_slice() {
         if options.offset.is_some() {
             return None;

@@ -33,6 +33,7 @@ use Rattle.sq_checks.specs.contracts.frames.Frames as frames
 use Rattle.sq_checks.specs.contracts.frames.Frames.TheInside as frames_inside
 use Rattle.sq_checks.specs.contracts.conns.Link as link
 use Rattle.sq_checks.specs.contracts.counts.ConnCounts as counts
+use Rattle.sq_checks.specs.contracts.counts.ConnCounts.TheInside as counts_inside
 use Rattle.sq_checks.specs.contracts.conns.Conns as conns
 use Rattle.sq_checks.specs.contracts.stages.CheckStage as stage
 use Rattle.sq_checks.specs.contracts.open_check.OpenCheck as open_check
@@ -175,8 +176,11 @@ frames_send = view_send _ _ _ _ _ frames_inside_send
 link_send : IsSend link.the_row
 link_send = search (sendable, crosses) depth 40 fits 20000
 
+counts_inside_send : IsSend counts_inside.the_row
+counts_inside_send = search (sendable, crosses, BTreeMap-send) depth 40 fits 20000
+
 counts_send : IsSend counts.the_row
-counts_send = search (sendable, crosses, BTreeMap-send) depth 40 fits 20000
+counts_send = view_send _ _ _ _ _ counts_inside_send
 
 conns_send : IsSend conns.the_row
 conns_send = search (sendable, crosses, BTreeMap-send, link_send, counts_send) depth 40 fits 20000

@@ -13,7 +13,7 @@ use sq_calls::{DeskCalls, DeskFault};
 use sq_desk::{Desk, DeskStart};
 use sq_journal::Journal;
 use sq_pools::{Bank, Pools, TagPools};
-use sq_rewrite::{Rewriter, RewriterHall, RewriterRoom};
+use sq_rewrite::{Rewriter, RewriterRoom};
 use sq_rules::Config;
 use sq_server_threads::{OpenedBooks, RewriterStart, Wholes};
 use sq_shared::{Asks, Grants, Hall, Ledgers, Makes, Refusals};
@@ -37,10 +37,11 @@ pub(crate) struct DeskAndPools<J: Journal, B: Before + DeskStart> {
     pub tags: TagPools,
 }
 
-/// The rewriter of a configuration behind its lock, if it states one.
+/// The rewriter of a configuration behind its lock, if it states one, with a place to sleep for each of so many workers.
 pub(crate) fn rewriter_of(
     alloc: Global,
     config: &Config,
+    workers: u32,
 ) -> Result<Option<RewriterStart>, WantOfMemory>
     ensures { IfOk result
         (λ o. option_map (λ r. r.words) o ≡ option_map (λ c. c.words) config.now.rewriter) }
@@ -49,7 +50,7 @@ pub(crate) fn rewriter_of(
         return Ok(None);
     };
     let words = class.words.copy(alloc)?;
-    let room = RewriterRoom::new(RewriterHall::new(Rewriter::new(alloc, class)));
+    let room = RewriterRoom::new(alloc, Rewriter::new(alloc, class), workers)?;
     Ok(Some(RewriterStart { room, words }))
 }
 

@@ -202,7 +202,8 @@ pub fn serve_conf<R: Threads + Wait + Sync, W: World>(
         Err(end) => return (end, journal),
     };
     let port = port_of(&service.options, setup.config());
-    let parts = match net.parts(alloc, port) {
+    let workers = workers_of(&service.options);
+    let parts = match net.parts(alloc, port, workers) {
         Ok(parts) => parts,
         Err(Failed) => return (Status::Net, journal),
     };
@@ -211,7 +212,6 @@ pub fn serve_conf<R: Threads + Wait + Sync, W: World>(
         offset: offset_of(&service.options),
         seed: platform.seed,
     };
-    let workers = workers_of(&service.options);
     let plan = Plan {
         start,
         port,

@@ -109,7 +109,7 @@ impl<N: NetTypes + Send, J: Journal + Send + Drop> ServerStart<N, J> {
             start,
             journal,
         } = self;
-        let rewriter = match rewriter_of(alloc, start.setup.config()) {
+        let rewriter = match rewriter_of(alloc, start.setup.config(), workers) {
             Ok(rewriter) => rewriter,
             Err(WantOfMemory) => {
                 return Err(Unserved {
@@ -204,7 +204,7 @@ pub fn serve<R: Threads + Wait + Sync, N: Net, J: Journal + Send + Drop, K: Pane
     ensures unrun { IfErr result (λ u. (u.panel ≡ panel) × (u.listener ≡ parts.listener)) }
 {
     // Those of the workers and of the pumps, beside the panel's, which is this one.
-    if !has_threads(rt, workers + pump_count(start.setup.config())) {
+    if !has_threads(rt, alloc, workers + pump_count(start.setup.config())) {
         return Err(Unserved {
             fault: DeskFault::WantOfMemory,
             listener: parts.listener,

@@ -1,3 +1,4 @@
 pub mod Adapters
 pub mod Hosts
+pub mod Names
 pub mod System

@@ -1,64 +1,39 @@
-//! What the adapters of one net know of one another: whether somebody waits for the next link, when a link gave way, whether the
-//! server is stopped, and whose client a worker serves.
-//!
-//! A worker is known by its thread, which Linux names in `/proc/thread-self`. Where that can't be read nothing is known of clients:
-//! their links then count as busy ones, and what was dialled for them does not end with them.
+//! What the adapters of one net know of one another: whether a client waits for a worker, when a link gave way, whether the server is
+//! stopped, whose client a worker serves, and what wakes the doorkeeper.
 
-use crate::link_stream::LinkStream;
+use crate::arrivals::Arrivals;
+use crate::seats::{ClientSlot, ClientSlots};
 use std::alloc::Global;
-use std::rt::Files;
-use std::sync::atomic::{AtomicU64, Ordering};
-use std::sync::{Arc, Mutex};
+use std::sync::atomic::{AtomicBool, AtomicU64, Ordering};
+use std::sync::{Arc, Mutex, Wait};
+use std::thread::Parker;
 use std::time::{Clock, Duration};
 
-/// From how many microseconds on a call of the listener has waited. One that finds a link returns sooner.
-const WAITED: u128 = 250;
-
 /// The last number of milliseconds that is told apart.
-const LAST: u128 = (1 << 63) - 1;
-
-/// How often a lock is tried that others hold for a moment alone.
-const TRIES: u32 = 1000;
-
-/// A worker, and the link of the client that it serves.
-#[derive(Drop)]
-pub(crate) struct ClientSlot {
-    thread: u64,
-    client: Mutex<Option<Arc<LinkStream>>>,
-}
-
-impl ClientSlot {
-    /// Has this client's link, or none.
-    pub(crate) fn put(&self, line: Option<Arc<LinkStream>>) {
-        for _ in 0..TRIES {
-            if let Some(mut client) = self.client.try_lock() {
-                *client = line;
-                return;
-            }
-        }
-    }
-
-    /// The link of its client.
-    pub(crate) fn client(&self) -> Option<Arc<LinkStream>> {
-        let client = self.client.try_lock()?;
-        let line = client.as_ref()?;
-        Arc::try_clone(line).ok()
-    }
-}
+const LAST: u128 = (1 << 60) - 1;
 
 /// What the adapters of one net share.
 #[derive(Drop)]
 pub(crate) struct House {
-    // Odd while the listener is called, and another even number behind each call that waited.
-    calls: AtomicU64,
     // The time when a link gave way last, and when the server was stopped; 0 is never.
     crowded: AtomicU64,
     stopped: AtomicU64,
-    seats: Mutex<Vec<Arc<ClientSlot>>>,
+    // Whether the listener is gone.
+    closed: AtomicBool,
+    // How many clients that have said something waited for a worker when the doorkeeper looked last.
+    wanting: AtomicU64,
+    // How many workers there are, where this is known; else 0.
+    workers: AtomicU64,
+    /// The accept queue. Who holds its lock for long is a worker that waits for a client.
+    pub(crate) queue: Mutex<Arrivals>,
+    pub(crate) seats: ClientSlots,
+    // Whether the doorkeeper sleeps until a worker has taken a client, and where it sleeps.
+    rests: AtomicBool,
+    bell: Parker,
 }
 
-// The milliseconds that passed since some time before the program began, plus 1.
-fn now(clock: &impl Clock) -> u64 {
+/// The milliseconds that passed since some time before the program began, plus 1.
+pub(crate) fn now(clock: &impl Clock) -> u64 {
     match clock.monotonic() {
         Ok(passed) => passed.as_millis().min(LAST) as u64 + 1,
         Err(_) => 1,
@@ -73,40 +48,20 @@ fn since(clock: &impl Clock, time: u64) -> Option<Duration> {
     Some(Duration::from_millis(now(clock).saturating_sub(time)))
 }
 
-// The number of the thread that calls.
-fn thread(rt: &impl Files, alloc: Global) -> Option<u64> {
-    let path = rt.read_link(alloc, "/proc/thread-self").ok()?;
-    path.file_name()?.parse().ok()
-}
-
 impl House {
     /// Nothing was done yet.
     pub(crate) fn new(alloc: Global) -> House {
         House {
-            calls: AtomicU64::new(0),
             crowded: AtomicU64::new(0),
             stopped: AtomicU64::new(0),
-            seats: Mutex::new(Vec::new(alloc)),
+            closed: AtomicBool::new(false),
+            wanting: AtomicU64::new(0),
+            workers: AtomicU64::new(0),
+            queue: Mutex::new(Arrivals::new(alloc)),
+            seats: ClientSlots::new(alloc),
+            rests: AtomicBool::new(false),
+            bell: Parker::new(),
         }
-    }
-
-    /// A call of the listener begins.
-    pub(crate) fn enter(&self) {
-        self.calls.fetch_add(1, Ordering::SeqCst);
-    }
-
-    /// It ends, and took so long.
-    pub(crate) fn leave(&self, time: Duration) {
-        if time.as_micros() >= WAITED {
-            self.calls.fetch_add(1, Ordering::SeqCst);
-        } else {
-            self.calls.fetch_sub(1, Ordering::SeqCst);
-        }
-    }
-
-    /// The number of these calls. Where it is even, and the same as before, nobody waited for a link meanwhile.
-    pub(crate) fn calls(&self) -> u64 {
-        self.calls.load(Ordering::SeqCst)
     }
 
     /// A link gives way.
@@ -119,9 +74,10 @@ impl House {
         since(clock, self.crowded.load(Ordering::SeqCst))
     }
 
-    /// The server is stopped.
+    /// The server is stopped. The doorkeeper then ends what may end.
     pub(crate) fn stop(&self, clock: &impl Clock) {
         self.stopped.store(now(clock), Ordering::SeqCst);
+        self.ring();
     }
 
     pub(crate) fn is_stopped(&self) -> bool {
@@ -133,33 +89,74 @@ impl House {
         since(clock, self.stopped.load(Ordering::SeqCst))
     }
 
-    /// The seat of the thread that calls, which is made where there is none.
-    pub(crate) fn seat(&self, rt: &impl Files, alloc: Global) -> Option<Arc<ClientSlot>> {
-        let thread = thread(rt, alloc)?;
-        for _ in 0..TRIES {
-            if let Some(mut seats) = self.seats.try_lock() {
-                return seat_of(alloc, &mut seats, thread);
-            }
-        }
-        None
+    /// The listener is gone. The doorkeeper then ends.
+    pub(crate) fn close(&self) {
+        self.closed.store(true, Ordering::SeqCst);
+        self.ring();
     }
-}
 
-fn seat_of(
-    alloc: Global,
-    seats: &mut Vec<Arc<ClientSlot>>,
-    thread: u64,
-) -> Option<Arc<ClientSlot>> {
-    for seat in seats.iter() {
-        if seat.thread == thread {
-            return Arc::try_clone(seat).ok();
+    pub(crate) fn is_closed(&self) -> bool {
+        self.closed.load(Ordering::SeqCst)
+    }
+
+    /// So many workers there are.
+    pub(crate) fn set_workers(&self, workers: u32) {
+        self.workers.store(u64::from(workers), Ordering::SeqCst);
+    }
+
+    /// How many workers there are; 0 where this is not known.
+    pub(crate) fn workers(&self) -> u64 {
+        self.workers.load(Ordering::SeqCst)
+    }
+
+    /// So many clients that have said something wait, and no worker is free. The doorkeeper calls this.
+    pub(crate) fn set_wanting(&self, count: usize) {
+        self.wanting.store(count as u64, Ordering::SeqCst);
+    }
+
+    /// Whether a client that has said something waits for a worker and none is free, as the doorkeeper saw it last.
+    pub(crate) fn is_wanted(&self) -> bool {
+        self.wanting.load(Ordering::SeqCst) > 0
+    }
+
+    /// The slot of the thread that calls, which is made where there is none.
+    pub(crate) fn seat(&self, alloc: Global) -> Option<Arc<ClientSlot>> {
+        self.seats.own(alloc)
+    }
+
+    // Wakes the doorkeeper where it sleeps.
+    fn ring(&self) {
+        self.bell.unpark();
+    }
+
+    /// A worker has a client, and waits no more. At most once a look this wakes the doorkeeper.
+    pub(crate) fn leave(&self) {
+        if self.rests.swap(false, Ordering::SeqCst) {
+            self.ring();
         }
     }
-    let seat = ClientSlot {
-        thread,
-        client: Mutex::new(None),
-    };
-    let seat = Arc::new(alloc, seat).ok()?;
-    seats.push(Arc::try_clone(&seat).ok()?).ok()?;
-    Some(seat)
+
+    // Whether a worker waits for a client.
+    fn has_waiting_worker(&self) -> bool {
+        match self.queue.try_lock() {
+            Some(_) => false,
+            None => true,
+        }
+    }
+
+    /// Sleeps while a worker waits for a client: then nobody waits for a worker. The doorkeeper calls this. A worker that leaves before it
+    /// is noted that the doorkeeper rests has released the queue's lock, so that this does not sleep.
+    pub(crate) fn rest(&self, rt: &impl Wait) {
+        self.set_wanting(0);
+        self.rests.store(true, Ordering::SeqCst);
+        if self.has_waiting_worker() && !self.is_closed() && !self.is_stopped() {
+            self.bell.park(rt);
+        }
+        self.rests.store(false, Ordering::SeqCst);
+    }
+
+    /// Sleeps so long, or until the server is stopped or the listener gone. The doorkeeper calls this.
+    pub(crate) fn sleep(&self, rt: &(impl Wait + Clock), time: Duration) {
+        self.bell.park_timeout(rt, time);
+    }
 }

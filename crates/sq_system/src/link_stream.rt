@@ -1,44 +1,152 @@
-//! One socket, as both halves of its link see it, and how long a call may wait for it.
+//! One socket, as both halves of its link and the doorkeeper see it, and how long a call may wait for it.
 ghost use Rattle.std.specs.Io.{ReadsAtMost, WritesAtMost};
 
-use crate::house::House;
+use crate::house::{House, now};
+use crate::ready::{self, PollFor};
 use crate::times::LinkTimes;
 use std::io::{self, ErrorKind, Read, Write};
-use std::net::TcpStream;
-use std::sync::Arc;
+use std::net::{Shutdown, TcpStream};
 use std::sync::atomic::{AtomicBool, AtomicU64, Ordering};
-use std::time::Clock;
+use std::sync::{Arc, Mutex};
+use std::thread::yield_now;
+use std::time::{Clock, Duration};
 
-/// A socket, a count of the calls by which bytes passed, and whether its worker has a dial for it.
+/// How often a lock is tried that others hold for a moment alone. Its holders call nothing that waits.
+const TRIES: u32 = 1 << 24;
+
+/// Puts something under a lock that others hold for a moment alone, by any thread.
+pub(crate) fn put<T: Drop>(lock: &Mutex<T>, value: T) {
+    for _ in 0..TRIES {
+        if let Some(mut held) = lock.try_lock() {
+            *held = value;
+            return;
+        }
+        yield_now();
+    }
+}
+
+/// Another handle of what lies under such a lock, by any thread.
+pub(crate) fn copied<T>(lock: &Mutex<Option<Arc<T>>>) -> Option<Arc<T>> {
+    for _ in 0..TRIES {
+        if let Some(held) = lock.try_lock() {
+            return copy_of(&held);
+        }
+        yield_now();
+    }
+    None
+}
+
+/// Another handle of what adapters share, if there is one.
+pub(crate) fn copy_of<T>(shared: &Option<Arc<T>>) -> Option<Arc<T>> {
+    Arc::try_clone(shared.as_ref()?).ok()
+}
+
+/// A socket, with what decides who gives way. The threads that carry its link write this, and the doorkeeper reads it.
 #[derive(Drop)]
 pub(crate) struct LinkStream {
     pub(crate) stream: TcpStream,
+    // When it was accepted or dialled, and when bytes passed last; 0 is never.
+    begun: u64,
     passed: AtomicU64,
-    dialled: AtomicBool,
+    // How many threads wait where the end of the socket wakes them.
+    waits: AtomicU64,
+    // When the first byte came of a head, or of a chunk's line, that is not whole; 0 where there is none.
+    piece: AtomicU64,
+    // Whether the first byte of a message is expected.
+    between: AtomicBool,
+    // Whether the doorkeeper has shut it.
+    ended: AtomicBool,
+}
+
+/// Whether so long has passed between these two times.
+pub(crate) fn has_passed(since: u64, now: u64, least: Duration) -> bool {
+    u128::from(now.saturating_sub(since)) >= least.as_millis()
 }
 
 impl LinkStream {
-    pub(crate) fn new(stream: TcpStream) -> LinkStream {
+    /// A socket that was accepted or dialled at this time.
+    pub(crate) fn new(stream: TcpStream, begun: u64) -> LinkStream {
         LinkStream {
             stream,
+            begun,
             passed: AtomicU64::new(0),
-            dialled: AtomicBool::new(false),
+            waits: AtomicU64::new(0),
+            piece: AtomicU64::new(0),
+            between: AtomicBool::new(true),
+            ended: AtomicBool::new(false),
         }
     }
 
-    /// Bytes passed.
-    pub(crate) fn pass(&self) {
-        self.passed.fetch_add(1, Ordering::SeqCst);
+    /// A thread begins to wait where the end of this socket wakes it, or where it looks at `is_gone` itself.
+    pub(crate) fn enter(&self) {
+        self.waits.fetch_add(1, Ordering::SeqCst);
     }
 
-    /// Its worker has a dial for it, or gave it back.
-    pub(crate) fn set_dialled(&self, dialled: bool) {
-        self.dialled.store(dialled, Ordering::SeqCst);
+    /// It waits no more.
+    pub(crate) fn leave(&self) {
+        self.waits.fetch_sub(1, Ordering::SeqCst);
     }
 
-    // Whether its other side has reset it: its socket has no other side then. One that only says nothing more is there.
-    fn is_reset(&self) -> bool {
-        self.stream.peer_addr().is_err()
+    // Bytes passed, or the end of them.
+    fn pass(&self, now: u64) {
+        self.passed.store(now, Ordering::SeqCst);
+    }
+
+    /// When bytes passed last, or it began.
+    pub(crate) fn last(&self) -> u64 {
+        self.passed.load(Ordering::SeqCst).max(self.begun)
+    }
+
+    /// The first byte of a message is expected, or not.
+    pub(crate) fn set_between(&self, between: bool) {
+        self.between.store(between, Ordering::SeqCst);
+    }
+
+    /// A head or a line is being read, or none is. Where one was, its time goes on.
+    pub(crate) fn set_piece(&self, clock: &impl Clock, is_read: bool) {
+        if !is_read {
+            self.piece.store(0, Ordering::SeqCst);
+        } else if self.piece.load(Ordering::SeqCst) == 0 {
+            self.piece.store(now(clock), Ordering::SeqCst);
+        }
+    }
+
+    /// Whether its client has reset it, or the doorkeeper has shut it. A client that only sends nothing more is there.
+    pub(crate) fn is_gone(&self) -> bool {
+        self.is_ended() || self.stream.peer_addr().is_err()
+    }
+
+    /// Whether the doorkeeper has shut it.
+    pub(crate) fn is_ended(&self) -> bool {
+        self.ended.load(Ordering::SeqCst)
+    }
+
+    /// Shuts this socket, once. Each thread that waits for it wakes, and finds that the link has failed. The doorkeeper calls this, and
+    /// the calls below.
+    pub(crate) fn shut(&self) {
+        if !self.ended.swap(true, Ordering::SeqCst) {
+            let _ = self.stream.shutdown(Shutdown::Both);
+        }
+    }
+
+    /// Whether a thread waits where the end of this socket wakes it.
+    pub(crate) fn is_waited_for(&self) -> bool {
+        self.waits.load(Ordering::SeqCst) > 0
+    }
+
+    /// When the first byte came of a head, or of a chunk's line, that is not whole; 0 where there is none.
+    pub(crate) fn piece(&self) -> u64 {
+        self.piece.load(Ordering::SeqCst)
+    }
+
+    /// Whether bytes ever passed.
+    pub(crate) fn is_used(&self) -> bool {
+        self.passed.load(Ordering::SeqCst) > 0
+    }
+
+    /// Whether the first byte of a message is expected.
+    pub(crate) fn is_between(&self) -> bool {
+        self.between.load(Ordering::SeqCst)
     }
 }
 
@@ -75,22 +183,27 @@ impl<R: Drop> Drop for LinkWatch<R> {
     }
 }
 
-/// Another handle of what adapters share, if there is one.
-pub(crate) fn copy_of<T>(shared: &Option<Arc<T>>) -> Option<Arc<T>> {
-    Arc::try_clone(shared.as_ref()?).ok()
-}
-
-/// What a call knew at the last tick.
-#[derive(Drop)]
-pub(crate) struct Wait {
-    passed: u64,
-    calls: u64,
-    silent: u32,
-}
-
-/// What a call ends with that waited for a tick.
+/// What a call ends with that has blocked for a tick.
 pub(crate) fn is_tick(kind: ErrorKind) -> bool {
     matches!(kind, ErrorKind::WouldBlock | ErrorKind::TimedOut)
+}
+
+/// What a call waits for.
+#[derive(Clone, Copy, PartialEq, Eq)]
+pub(crate) enum Way {
+    In,
+    Out,
+}
+
+/// How a wait ended.
+#[derive(Clone, Copy, PartialEq, Eq)]
+pub(crate) enum Waited {
+    /// The call is to be made again.
+    Ready,
+    /// Nothing came in time.
+    Nothing,
+    /// The link has failed.
+    Failed,
 }
 
 impl Side {
@@ -153,21 +266,11 @@ impl<R> LinkWatch<R> {
     }
 }
 
+// These are called by the thread that reads or writes this half. They touch its socket, what both halves share, and nothing of other
+// links.
 impl<R: Clock> LinkWatch<R> {
-    /// A call begins.
-    pub(crate) fn begin(&self) -> Wait {
-        Wait {
-            passed: self.line.passed.load(Ordering::SeqCst),
-            calls: match &self.house {
-                Some(house) => house.calls(),
-                None => 1,
-            },
-            silent: 0,
-        }
-    }
-
-    /// Whether the server was stopped too long ago for links to go on.
-    pub(crate) fn is_over(&self) -> bool {
+    // Whether the server was stopped too long ago for links to go on.
+    fn is_over(&self) -> bool {
         match &self.house {
             Some(house) => match house.since_stop(&self.rt) {
                 Some(passed) => passed >= self.times.end,
@@ -177,54 +280,111 @@ impl<R: Clock> LinkWatch<R> {
         }
     }
 
-    /// At a tick: whether the call goes on waiting.
-    pub(crate) fn goes_on(&self, wait: &mut Wait) -> bool {
-        let passed = self.line.passed.load(Ordering::SeqCst);
-        wait.silent = if passed == wait.passed {
-            wait.silent.saturating_add(1)
-        } else {
-            0
-        };
-        wait.passed = passed;
-        wait.silent < self.times.silent && !self.has_no_client() && self.is_left(wait)
+    // How much of this limit is left that began to count then.
+    fn left_of(&self, limit: Duration, since: u64) -> Option<Duration> {
+        let passed = now(&self.rt).saturating_sub(since);
+        let left = limit.checked_sub(Duration::from_millis(passed))?;
+        if left.is_zero() { None } else { Some(left) }
     }
 
-    // Whether the client for which it was dialled has reset its link.
-    fn has_no_client(&self) -> bool {
-        match &self.side {
-            Side::Origin(client) => client.is_reset(),
-            _ => false,
+    // How long a call may wait yet, if it may. What nobody knows to whom it belongs, nobody wakes: it looks around by itself.
+    fn left(&self, way: Way) -> Option<Duration> {
+        if self.is_over() || self.line.is_ended() {
+            return None;
+        }
+        let mut left = self.left_of(self.times.silent, self.line.last())?;
+        let piece = self.line.piece();
+        if way == Way::In && piece > 0 {
+            left = left.min(self.left_of(self.times.head, piece)?);
+        }
+        match (&self.side, &self.house) {
+            (Side::Unknown, Some(_)) => Some(left.min(self.times.tick)),
+            _ => Some(left),
         }
     }
 
-    // Whether it is a client's link between two requests, or before a first head is whole.
-    fn is_spare(&self) -> bool {
-        match &self.side {
-            Side::Client => !self.line.dialled.load(Ordering::SeqCst),
-            _ => false,
+    // Waits so long at the most. A client that has left ends what was dialled for it.
+    fn poll(&self, way: Way, most: Duration) -> Waited {
+        let asked = match way {
+            Way::In => PollFor::Read,
+            Way::Out => PollFor::Write,
+        };
+        let own = ready::entry(&self.line.stream, asked);
+        let (waited, left) = match &self.side {
+            Side::Origin(client) => {
+                let mut both = [own, ready::entry(&client.stream, PollFor::End)];
+                ready::wait(&mut both, Some(most));
+                (ready::is_reported(&both[0]), ready::is_over(&both[1]))
+            }
+            _ => {
+                let mut one = [own];
+                ready::wait(&mut one, Some(most));
+                (ready::is_reported(&one[0]), false)
+            }
+        };
+        match (waited, left) {
+            (_, true) => Waited::Failed,
+            (true, false) => Waited::Ready,
+            (false, false) => Waited::Nothing,
         }
     }
 
-    // Whether nobody else needs that it ends. Where nobody waits for the next link it gives way to it.
-    fn is_left(&self, wait: &mut Wait) -> bool {
-        let Some(house) = &self.house else {
-            return true;
-        };
-        let calls = house.calls();
-        let is_crowded = calls % 2 == 0 && calls == wait.calls;
-        wait.calls = calls;
-        let (crowd, end) = if self.is_spare() {
-            (self.times.spare, 1)
-        } else {
-            (self.times.held, self.times.ending)
-        };
-        if house.is_stopped() {
-            return wait.silent < end && !self.is_over();
+    /// Waits until the call can be made again, to the limits of the link.
+    pub(crate) fn wait(&self, way: Way) -> Waited {
+        for _ in 0..u64::MAX {
+            let Some(left) = self.left(way) else {
+                return Waited::Failed;
+            };
+            match self.poll(way, left) {
+                Waited::Nothing => {}
+                waited => return waited,
+            }
         }
-        if is_crowded && wait.silent >= crowd {
-            house.crowd(&self.rt);
+        Waited::Failed
+    }
+
+    /// The same, but some seconds at the most.
+    pub(crate) fn wait_soon(&self) -> Waited {
+        let begun = now(&self.rt);
+        for _ in 0..u64::MAX {
+            let Some(left) = self.left(Way::In) else {
+                return Waited::Failed;
+            };
+            let Some(most) = self.left_of(self.times.soon, begun) else {
+                return Waited::Nothing;
+            };
+            match self.poll(Way::In, left.min(most)) {
+                Waited::Nothing => {}
+                waited => return waited,
+            }
+        }
+        Waited::Failed
+    }
+
+    /// Whether a call may be made. Where less is left for a head than a tick it waits here.
+    pub(crate) fn may_begin(&self, way: Way) -> bool {
+        if self.is_over() || self.line.is_ended() {
             return false;
         }
-        true
+        if way == Way::Out || self.line.piece() == 0 {
+            return true;
+        }
+        match self.left(way) {
+            Some(left) if left < self.times.tick => self.wait(way) == Waited::Ready,
+            Some(_) => true,
+            None => false,
+        }
+    }
+
+    /// The call has moved bytes, or found the end. Whether that counts: what comes from a socket that the doorkeeper has shut does not.
+    pub(crate) fn pass(&self) -> bool {
+        self.line.pass(now(&self.rt));
+        !self.line.is_ended()
+    }
+
+    /// What the reader expects next.
+    pub(crate) fn expect(&self, between: bool, piece: bool) {
+        self.line.set_between(between);
+        self.line.set_piece(&self.rt, piece);
     }
 }

@@ -1,12 +1,14 @@
 //! The world of a server over the system: sockets, programs, names and the clock. It hands out the trusted
 //! adapters, and relies on them alone.
-ghost use Rattle.std.specs.Prelude.{◌≤◌, ◌-◌, ◌^◌};
+ghost use Rattle.std.specs.Prelude.{◌≡◌, ◌≤◌, ◌-◌, ◌^◌, IfOk};
 
 use crate::again::raise;
 use crate::children::RealSpawner;
+use crate::doorkeeper::KeeperPost;
+use crate::messages::{self, tell_shortage};
 use crate::real_clock::RealClock;
 use crate::tcp_client::{RealDialer, RealResolver};
-use crate::tcp_server::{RealListener, RealStopper};
+use crate::tcp_server::{Listening, RealListener, RealStopper};
 use crate::times::LinkTimes;
 use sq_outside::{Failed, Net, Parts};
 use std::alloc::Global;
@@ -14,22 +16,60 @@ use std::fs::File;
 use std::net::{self, TcpListener, TcpStream};
 use std::process::{ChildStderr, ChildStdin, ChildStdout, OpenProcess, Processes};
 use std::rt::{Env, Files};
-use std::sync::Wait;
+use std::sync::{Arc, Wait};
 use std::thread::Threads;
-use std::time;
+use std::{io, time};
 
 /// The net of this machine. Where its port cannot be opened it says so on standard error: `aclproxy: port N: REASON`.
 #[derive(Drop)]
 pub struct RealNet<R> {
     rt: R,
+    // Where the doorkeeper of its listener is.
+    post: Option<Arc<KeeperPost>>,
     faults: u64,
     ghost capped: { faults ≤ 2 ^ 63 - 1 },
 }
 
 impl<R> RealNet<R> {
-    /// The net of this runtime, with the count 0.
+    /// The net of this runtime, with the count 0. Its links give way to nobody.
     pub fn new(rt: R) -> RealNet<R> {
-        RealNet { rt, faults: 0 }
+        RealNet {
+            rt,
+            post: None,
+            faults: 0,
+        }
+    }
+
+    /// The same with a doorkeeper at this post.
+    pub fn with_keeper(rt: R, post: Arc<KeeperPost>) -> RealNet<R> {
+        RealNet {
+            rt,
+            post: Some(post),
+            faults: 0,
+        }
+    }
+}
+
+impl<
+    R: net::Net<Listener = TcpListener, Stream = TcpStream>
+        + Env
+        + Files<File = File>
+        + Copy
+        + Drop,
+> RealNet<R> {
+    ghost use Rattle.sq_system.specs.Adapters.{accept_faults};
+
+    // Opens the listener and what is beside it, and hands it to the doorkeeper.
+    fn open(&self, alloc: Global, port: u16, workers: u32) -> io::Result<Listening<R>>
+        ensures fresh { IfOk result (λ l. accept_faults l.listener ≡ 0) }
+    {
+        let listening = RealListener::listen(alloc, self.rt, port, LinkTimes::of_server())?;
+        if let Some(post) = &self.post {
+            let mut messages = messages::opened(&self.rt);
+            tell_shortage(&self.rt, &mut messages, alloc, workers);
+            listening.listener.keep(alloc, post, workers, messages)?;
+        }
+        Ok(listening)
     }
 }
 
@@ -66,9 +106,13 @@ where
     ghost capped = { λ s. s.capped };
 
     // A port that cannot be opened is named on standard error, with the reason.
-    fn parts(&mut self, alloc: Global, port: u16) -> Result<Parts<RealNet<R>>, Failed> {
-        let times = LinkTimes::of_server();
-        let listening = match RealListener::listen(alloc, self.rt, port, times) {
+    fn parts(
+        &mut self,
+        alloc: Global,
+        port: u16,
+        workers: u32,
+    ) -> Result<Parts<RealNet<R>>, Failed> {
+        let mut listening = match self.open(alloc, port, workers) {
             Ok(listening) => listening,
             Err(reason) => {
                 let _ = eprintln!(self.rt; "aclproxy: port {port}: {reason}");
@@ -76,13 +120,17 @@ where
                 return Err(Failed);
             }
         };
+        let Some(resolver) = listening.dialer.resolver(alloc) else {
+            raise(&mut self.faults);
+            return Err(Failed);
+        };
         Ok(Parts {
             listener: listening.listener,
             stopper: listening.stopper,
             dialer: listening.dialer,
             spawner: listening.spawner,
             clock: RealClock::new(self.rt),
-            resolver: RealResolver::new(self.rt),
+            resolver,
         })
     }
 

@@ -3,10 +3,11 @@
 ghost use Rattle.std.specs.Prelude.{◌≡◌, ◌≤◌, ◌-◌, ◌^◌, nat_lt, None, IfSome};
 
 use crate::again::raise;
-use crate::house::{ClientSlot, House};
-use crate::link_stream::{LinkStream, LinkWatch, Side, is_tick};
+use crate::house::{House, now};
+use crate::link_stream::{LinkStream, LinkWatch, Side, Waited, Way, is_tick};
+use crate::seats::ClientSlot;
 use crate::times::LinkTimes;
-use sq_outside::{Failed, Out, Sink, Source};
+use sq_outside::{Expected, Failed, Out, Sink, Source};
 use std::alloc::Global;
 use std::io::{self, ErrorKind};
 use std::net::{Shutdown, TcpStream};
@@ -17,7 +18,7 @@ use std::time::Clock;
 #[derive(Drop)]
 pub struct RealIn<R> {
     watch: LinkWatch<R>,
-    _seat: SlotGuard,
+    bond: Bond,
     faults: u64,
     ghost capped: { faults ≤ 2 ^ 63 - 1 },
 }
@@ -31,75 +32,90 @@ pub struct RealOut<R> {
     ghost capped: { faults ≤ 2 ^ 63 - 1 },
 }
 
-// The seat of the worker that serves a client, which is empty when this is let go.
-struct SlotGuard(Option<Arc<ClientSlot>>);
+// Where a link is known, which it is no more once this is dropped: in the slot of the worker that serves a client.
+enum Bond {
+    // As the client's.
+    Client(Arc<ClientSlot>),
+    // As the origin's that was dialled for it.
+    Origin(Arc<ClientSlot>),
+    Nowhere,
+}
 
-impl Drop for SlotGuard {
+impl Drop for Bond {
     fn drop(self) {
-        let SlotGuard(seat) = self;
-        if let Some(seat) = seat {
-            seat.put(None);
+        match self {
+            Bond::Client(slot) => slot.put(None),
+            Bond::Origin(slot) => slot.put_origin(None),
+            Bond::Nowhere => {}
         }
     }
 }
 
-/// Sends small pieces at once, and lets a call that waits look around at each tick.
+/// Sends small pieces at once, and lets a call block for a tick at the most.
 pub(crate) fn set(stream: &TcpStream, times: LinkTimes) -> io::Result<()> {
     stream.set_nodelay(true)?;
     stream.set_read_timeout(Some(times.tick))?;
     stream.set_write_timeout(Some(times.tick))
 }
 
-impl<R: Copy + Drop> RealIn<R> {
+// Whose a link is that was dialled for this client.
+fn side_of(client: Option<Arc<LinkStream>>) -> Side {
+    match client {
+        Some(client) => Side::Origin(client),
+        None => Side::Unknown,
+    }
+}
+
+impl<R: Clock + Copy + Drop> RealIn<R> {
     ghost use Rattle.sq_system.specs.Adapters.{in_faults, out_faults};
 
-    /// Both halves of a link to an origin, over a socket without the delay that gathers small pieces, dialled for this client. None
-    /// where there is no memory, or the socket takes no setting.
+    /// Both halves of a link to an origin, over a socket without the delay that gathers small pieces, dialled by the worker in this
+    /// slot for its client. None where there is no memory, or the socket takes no setting.
     pub(crate) fn dialled(
         alloc: Global,
         rt: R,
         stream: TcpStream,
         times: LinkTimes,
         house: Option<Arc<House>>,
-        client: Option<Arc<LinkStream>>,
+        slot: Option<Arc<ClientSlot>>,
     ) -> Option<(RealIn<R>, RealOut<R>)>
         ensures fresh { IfSome result (λ h. (in_faults h.0 ≡ 0) × (out_faults h.1 ≡ 0)) }
     {
         set(&stream, times).ok()?;
-        let line = Arc::new(alloc, LinkStream::new(stream)).ok()?;
-        let side = match client {
-            Some(client) => {
-                client.set_dialled(true);
-                Side::Origin(client)
+        let line = Arc::new(alloc, LinkStream::new(stream, now(&rt))).ok()?;
+        let (side, bond) = match slot {
+            Some(slot) => {
+                slot.put_origin(Arc::try_clone(&line).ok());
+                (side_of(slot.client()), Bond::Origin(slot))
             }
-            None => Side::Unknown,
+            None => (Side::Unknown, Bond::Nowhere),
         };
-        RealIn::halves(LinkWatch::new(rt, line, side, house, times), None)
+        RealIn::halves(LinkWatch::new(rt, line, side, house, times), bond)
     }
 
-    /// Both halves of a client's link, over a socket that has its settings from the listener's, which takes this seat.
+    /// Both halves of a client's link, over a socket that has its settings from the listener's, which takes this slot.
     pub(crate) fn accepted(
         alloc: Global,
         rt: R,
         stream: TcpStream,
         times: LinkTimes,
         house: Arc<House>,
-        seat: Option<Arc<ClientSlot>>,
+        slot: Option<Arc<ClientSlot>>,
     ) -> Option<(RealIn<R>, RealOut<R>)>
         ensures fresh { IfSome result (λ h. (in_faults h.0 ≡ 0) × (out_faults h.1 ≡ 0)) }
     {
-        let line = Arc::new(alloc, LinkStream::new(stream)).ok()?;
-        let side = match &seat {
-            Some(seat) => {
-                seat.put(Arc::try_clone(&line).ok());
-                Side::Client
+        let line = Arc::new(alloc, LinkStream::new(stream, now(&rt))).ok()?;
+        let (side, bond) = match slot {
+            Some(slot) => {
+                slot.put(Arc::try_clone(&line).ok());
+                (Side::Client, Bond::Client(slot))
             }
-            None => Side::Unknown,
+            None => (Side::Unknown, Bond::Nowhere),
         };
-        RealIn::halves(LinkWatch::new(rt, line, side, Some(house), times), seat)
+        RealIn::halves(LinkWatch::new(rt, line, side, Some(house), times), bond)
     }
 
-    fn halves(watch: LinkWatch<R>, seat: Option<Arc<ClientSlot>>) -> Option<(RealIn<R>, RealOut<R>)>
+    fn halves(watch: LinkWatch<R>, bond: Bond) -> Option<(RealIn<R>, RealOut<R>)>
         ensures fresh { IfSome result (λ h. (in_faults h.0 ≡ 0) × (out_faults h.1 ≡ 0)) }
     {
         let to = RealOut {
@@ -109,7 +125,7 @@ impl<R: Copy + Drop> RealIn<R> {
         };
         let from = RealIn {
             watch,
-            _seat: SlotGuard(seat),
+            bond,
             faults: 0,
         };
         Some((from, to))
@@ -128,8 +144,8 @@ impl<R> RealIn<R> {
 
     /// The dial was given back: its client has none any more.
     pub(crate) fn end_dial(&self) {
-        if let Side::Origin(client) = &self.watch.side {
-            client.set_dialled(false);
+        if let Bond::Origin(slot) = &self.bond {
+            slot.put_origin(None);
         }
     }
 }
@@ -144,23 +160,60 @@ impl<R: Clock> Source for RealIn<R> {
     ghost capped = { λ s. s.capped };
 
     fn read(&mut self, into: &mut [u8]) -> Result<usize, Failed> {
-        let mut wait = self.watch.begin();
+        self.watch.line.enter();
         for _ in 0..u64::MAX {
-            if self.watch.is_over() {
+            if !self.watch.may_begin(Way::In) {
                 break;
             }
             match self.watch.read(into) {
-                Ok(count) => {
-                    self.watch.line.pass();
+                Ok(count) if self.watch.pass() => {
+                    self.watch.line.leave();
                     return Ok(count);
                 }
                 Err(e) if e.kind() == ErrorKind::Interrupted => {}
-                Err(e) if is_tick(e.kind()) && self.watch.goes_on(&mut wait) => {}
-                Err(_) => break,
+                Err(e) if is_tick(e.kind()) && self.watch.wait(Way::In) == Waited::Ready => {}
+                _ => break,
             }
         }
+        self.watch.line.leave();
         raise(&mut self.faults);
         Err(Failed)
+    }
+
+    fn read_soon(&mut self, into: &mut [u8]) -> Result<Option<usize>, Failed> {
+        self.watch.line.enter();
+        for _ in 0..u64::MAX {
+            if !self.watch.may_begin(Way::In) {
+                break;
+            }
+            match self.watch.read(into) {
+                Ok(count) if self.watch.pass() => {
+                    self.watch.line.leave();
+                    return Ok(Some(count));
+                }
+                Err(e) if e.kind() == ErrorKind::Interrupted => {}
+                Err(e) if is_tick(e.kind()) => match self.watch.wait_soon() {
+                    Waited::Ready => {}
+                    Waited::Nothing => {
+                        self.watch.line.leave();
+                        return Ok(None);
+                    }
+                    Waited::Failed => break,
+                },
+                _ => break,
+            }
+        }
+        self.watch.line.leave();
+        raise(&mut self.faults);
+        Err(Failed)
+    }
+
+    fn expect(&mut self, what: Expected) {
+        match what {
+            Expected::Nothing => self.watch.expect(true, false),
+            Expected::Head | Expected::Line => self.watch.expect(false, true),
+            Expected::Data => self.watch.expect(false, false),
+        }
     }
 }
 
@@ -183,21 +236,22 @@ impl<R: Clock> Sink for RealOut<R> {
     ghost capped = { λ s. s.capped };
 
     fn write(&mut self, bytes: &[u8]) -> Result<usize, Failed> {
-        let mut wait = self.watch.begin();
+        self.watch.line.enter();
         for _ in 0..u64::MAX {
-            if self.watch.is_over() {
+            if !self.watch.may_begin(Way::Out) {
                 break;
             }
             match self.watch.write(bytes) {
-                Ok(count) if count > 0 || bytes.is_empty() => {
-                    self.watch.line.pass();
+                Ok(count) if (count > 0 || bytes.is_empty()) && self.watch.pass() => {
+                    self.watch.line.leave();
                     return Ok(count);
                 }
                 Err(e) if e.kind() == ErrorKind::Interrupted => {}
-                Err(e) if is_tick(e.kind()) && self.watch.goes_on(&mut wait) => {}
+                Err(e) if is_tick(e.kind()) && self.watch.wait(Way::Out) == Waited::Ready => {}
                 _ => break,
             }
         }
+        self.watch.line.leave();
         raise(&mut self.faults);
         Err(Failed)
     }

@@ -3,25 +3,29 @@
 ghost use Rattle.std.specs.Prelude.{◌≡◌, ◌≤◌, ◌-◌, ◌^◌, None, IfSome};
 
 use crate::again::raise;
+use crate::dialling::connect;
 use crate::hosts::has_one_spelling;
-use crate::house::{ClientSlot, House};
+use crate::house::{House, now};
 use crate::link_stream::{LinkStream, copy_of};
+use crate::look_ups::{LookUps, Wanting, find};
+use crate::seats::ClientSlot;
 use crate::tcp::{RealIn, RealOut};
-use crate::tcp_server::addr_of;
 use crate::times::LinkTimes;
+use sq_addr::read_addr;
 use sq_base::{Addrs, Text};
 use sq_outside::{Another, Dialer, Failed, LinkUse, LookFault, Resolver};
 use std::alloc::Global;
-use std::io::ErrorKind;
-use std::net::{Net, TcpStream, ToSocketAddrs};
+use std::fs::File;
+use std::net::{Net, TcpStream};
 use std::rt::Files;
-use std::sync::Arc;
+use std::sync::{Arc, Wait};
 use std::thread::{self, Threads};
-use std::time::{Clock, Instant};
+use std::time::Clock;
 
 /// A dialer by the system's names and sockets. It reaches a host in its one spelling alone, and gives up where that takes too
-/// long; the look-up of a name takes as long as the system lets it. For a tunnel it sees first whether a thread can be had, and
-/// dials nobody where none is given. It is used by one thread: what it dials is for the client whose link this thread has
+/// long, the look-up of its name counted, or where its client has reset its link. Where the resolver beside it has looked a name up
+/// for a rule, it dials no other address than those that were found then. For a tunnel it sees first whether a thread can be had,
+/// and dials nobody where none is given. It is used by one thread: what it dials is for the client whose link this thread has
 /// accepted last.
 #[derive(Drop)]
 pub struct RealDialer<R> {
@@ -29,6 +33,7 @@ pub struct RealDialer<R> {
     times: LinkTimes,
     house: Option<Arc<House>>,
     seat: Option<Arc<ClientSlot>>,
+    look_ups: Option<Arc<LookUps>>,
     faults: u64,
     ghost capped: { faults ≤ 2 ^ 63 - 1 },
 }
@@ -41,6 +46,7 @@ impl<R> RealDialer<R> {
             times,
             house: None,
             seat: None,
+            look_ups: None,
             faults: 0,
         }
     }
@@ -52,6 +58,7 @@ impl<R> RealDialer<R> {
             times,
             house: Some(house),
             seat: None,
+            look_ups: None,
             faults: 0,
         }
     }
@@ -64,40 +71,83 @@ impl<R: Copy> Another for RealDialer<R> {
             times: self.times,
             house: copy_of(&self.house),
             seat: None,
+            look_ups: copy_of(&self.look_ups),
             faults: 0,
         }
     }
 }
 
-impl<R: Files> RealDialer<R> {
-    // The link of the client that the calling thread serves.
-    fn client(&mut self, alloc: Global) -> Option<Arc<LinkStream>>
+impl<R> RealDialer<R> {
+    // The slot of the worker that calls.
+    fn slot(&mut self, alloc: Global) -> Option<Arc<ClientSlot>>
         ensures kept { self.new.faults ≡ self.old.faults }
     {
         let house = self.house.as_ref()?;
         if self.seat.is_none() {
-            self.seat = house.seat(&self.rt, alloc);
+            self.seat = house.seat(alloc);
         }
-        self.seat.as_ref()?.client()
+        copy_of(&self.seat)
     }
 }
 
-impl<R: Net<Stream = TcpStream> + Clock + Files + Copy + Drop> RealDialer<R> {
+// The link of the client of this slot.
+fn client_of(slot: &Option<Arc<ClientSlot>>) -> Option<Arc<LinkStream>> {
+    slot.as_ref()?.client()
+}
+
+impl<R: Copy> RealDialer<R> {
+    // The names that this dialer shares, or else its own.
+    fn look_ups(&mut self, alloc: Global) -> Option<Arc<LookUps>>
+        ensures kept { self.new.faults ≡ self.old.faults }
+    {
+        if self.look_ups.is_none() {
+            self.look_ups = Arc::new(alloc, LookUps::new(alloc)).ok();
+        }
+        copy_of(&self.look_ups)
+    }
+
+    /// A resolver beside it: what that finds for a rule is what this dials.
+    pub(crate) fn resolver(&mut self, alloc: Global) -> Option<RealResolver<R>>
+        ensures kept { self.new.faults ≡ self.old.faults }
+    {
+        Some(RealResolver {
+            rt: self.rt,
+            house: copy_of(&self.house),
+            look_ups: Some(self.look_ups(alloc)?),
+            faults: 0,
+        })
+    }
+}
+
+impl<
+    R: Net<Stream = TcpStream> + Clock + Files<File = File> + Threads + Wait + Copy + Drop,
+> RealDialer<R> {
     ghost use Rattle.sq_system.specs.Adapters.{in_faults, out_faults};
 
-    // A socket of the first of the host's addresses that is reached in time.
-    fn connect(&self, host: &str, port: u16) -> Option<TcpStream> {
-        let begun = Instant::now(&self.rt).ok()?;
-        let found = (host, port).to_socket_addrs(&self.rt).ok()?;
-        for addr in found {
-            let spent = begun.elapsed(&self.rt).ok()?;
-            let left = self.times.host.checked_sub(spent)?;
-            let time = left.min(self.times.address);
-            if let Ok(stream) = TcpStream::connect_timeout(&self.rt, &addr, time) {
-                return Some(stream);
-            }
+    // A socket of one of the host's addresses, if one is reached in time.
+    fn connect(
+        &mut self,
+        alloc: Global,
+        host: &str,
+        port: u16,
+        client: &Option<Arc<LinkStream>>,
+    ) -> Option<TcpStream>
+        ensures kept { self.new.faults ≡ self.old.faults }
+    {
+        let begun = now(&self.rt);
+        let look_ups = self.look_ups(alloc)?;
+        let house = copy_of(&self.house);
+        let wanting = Wanting::Dial(client, &house);
+        let address = read_addr(host.as_bytes()).ok();
+        let found = match address {
+            Some(addr) => look_ups.literal(alloc, host, addr)?,
+            None => find(&self.rt, alloc, &look_ups, host, &wanting)?,
+        };
+        let stream = connect(&self.rt, alloc, &found, port, self.times, begun, &wanting);
+        if stream.is_none() && address.is_some() {
+            look_ups.keep_literal(alloc, host, found);
         }
-        None
+        stream
     }
 
     // Both halves of a link to that host and port, if it is reached.
@@ -109,10 +159,19 @@ impl<R: Net<Stream = TcpStream> + Clock + Files + Copy + Drop> RealDialer<R> {
         if !has_one_spelling(host) {
             return None;
         }
-        let stream = self.connect(host, port)?;
-        let client = self.client(alloc);
+        let slot = self.slot(alloc);
+        let client = client_of(&slot);
+        // The doorkeeper may end a dial as it ends a link that waits.
+        if let Some(client) = &client {
+            client.enter();
+        }
+        let stream = self.connect(alloc, host, port, &client);
+        if let Some(client) = &client {
+            client.leave();
+        }
+        let stream = stream?;
         let house = copy_of(&self.house);
-        RealIn::dialled(alloc, self.rt, stream, self.times, house, client)
+        RealIn::dialled(alloc, self.rt, stream, self.times, house, slot)
     }
 }
 
@@ -127,7 +186,9 @@ fn has_thread<R: Threads>(rt: &R) -> bool {
     }
 }
 
-impl<R: Net<Stream = TcpStream> + Clock + Files + Threads + Copy + Drop> RealDialer<R> {
+impl<
+    R: Net<Stream = TcpStream> + Clock + Files<File = File> + Threads + Wait + Copy + Drop,
+> RealDialer<R> {
     ghost use Rattle.sq_system.specs.Adapters.{in_faults, out_faults};
 
     // The same, if there is what this use of the link needs beside.
@@ -148,8 +209,9 @@ impl<R: Net<Stream = TcpStream> + Clock + Files + Threads + Copy + Drop> RealDia
     }
 }
 
-impl<R: Net<Stream = TcpStream> + Clock + Files + Threads + Copy + Send + Drop> Dialer
-    for RealDialer<R> {
+impl<
+    R: Net<Stream = TcpStream> + Clock + Files<File = File> + Threads + Wait + Copy + Send + Drop,
+> Dialer for RealDialer<R> {
     type In = RealIn<R>;
 
     type Outgo = RealOut<R>;
@@ -186,28 +248,55 @@ impl<R: Net<Stream = TcpStream> + Clock + Files + Threads + Copy + Send + Drop> 
     }
 }
 
-/// A resolver by the system's names.
+/// A resolver by the system's names. Where its server is stopped it looks nothing up any more.
 #[derive(Drop)]
 pub struct RealResolver<R> {
     rt: R,
+    house: Option<Arc<House>>,
+    look_ups: Option<Arc<LookUps>>,
     faults: u64,
     ghost capped: { faults ≤ 2 ^ 63 - 1 },
 }
 
 impl<R> RealResolver<R> {
-    /// A resolver of this runtime, with the count 0.
+    /// A resolver of this runtime, beside no dialer, with the count 0.
     pub fn new(rt: R) -> RealResolver<R> {
-        RealResolver { rt, faults: 0 }
+        RealResolver {
+            rt,
+            house: None,
+            look_ups: None,
+            faults: 0,
+        }
     }
 }
 
 impl<R: Copy> Another for RealResolver<R> {
     fn another(&self) -> RealResolver<R> {
-        RealResolver::new(self.rt)
+        RealResolver {
+            rt: self.rt,
+            house: copy_of(&self.house),
+            look_ups: copy_of(&self.look_ups),
+            faults: 0,
+        }
     }
 }
 
-impl<R: Net> Resolver for RealResolver<R> {
+impl<R: Clock + Files<File = File> + Threads + Wait> RealResolver<R> {
+    // The addresses of a host.
+    fn addrs(&mut self, alloc: Global, host: &Text) -> Option<Addrs>
+        ensures kept { self.new.faults ≡ self.old.faults }
+    {
+        let host = str::from_utf8(host.as_bytes()).ok()?;
+        if self.look_ups.is_none() {
+            self.look_ups = Arc::new(alloc, LookUps::new(alloc)).ok();
+        }
+        let look_ups = self.look_ups.as_ref()?;
+        let found = find(&self.rt, alloc, look_ups, host, &Wanting::Rule(&self.house))?;
+        found.addrs(alloc)
+    }
+}
+
+impl<R: Net + Clock + Files<File = File> + Threads + Wait> Resolver for RealResolver<R> {
     ghost names = { λ _. None };
 
     ghost faults = { λ s. s.faults };
@@ -215,22 +304,12 @@ impl<R: Net> Resolver for RealResolver<R> {
     ghost capped = { λ s. s.capped };
 
     fn look(&mut self, alloc: Global, host: &Text) -> Result<Addrs, LookFault> {
-        let Ok(name) = str::from_utf8(host.as_bytes()) else {
-            raise(&mut self.faults);
-            return Err(LookFault::Failed);
-        };
-        let found = match (name, 0u16).to_socket_addrs(&self.rt) {
-            Ok(found) => found,
-            Err(e) if e.kind() == ErrorKind::OutOfMemory => return Err(LookFault::WantOfMemory),
-            Err(_) => {
+        match self.addrs(alloc, host) {
+            Some(addrs) => Ok(addrs),
+            None => {
                 raise(&mut self.faults);
-                return Err(LookFault::Failed);
+                Err(LookFault::Failed)
             }
-        };
-        let mut addrs = Addrs::new(alloc);
-        for socket in found {
-            addrs.push(addr_of(socket.ip()))?;
         }
-        Ok(addrs)
     }
 }

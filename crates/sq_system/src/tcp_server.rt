@@ -7,23 +7,29 @@ ghost use Rattle.sq_outside.specs.World.{IfLink};
 use crate::again::raise;
 use crate::arrivals::{Arrival, Arrivals};
 use crate::children::RealSpawner;
-use crate::house::House;
-use crate::link_stream::is_tick;
+use crate::doorkeeper::{Doorkeeper, KeeperPost};
+use crate::house::{House, now};
+use crate::link_stream::{copy_of, is_tick};
+use crate::ready::{self, PollFor};
+use crate::seats::ClientSlot;
 use crate::tcp::{RealIn, RealOut, set};
 use crate::tcp_client::RealDialer;
 use crate::times::LinkTimes;
 use sq_base::Addr;
 use sq_outside::{Accepted, Listener, Stopper};
 use std::alloc::Global;
-use std::net::{IpAddr, Ipv4Addr, Ipv6Addr, Net, Shutdown, SocketAddr, TcpListener, TcpStream};
-use std::os::fd::OwnedFd;
-use std::rt::Files;
-use std::sync::Arc;
+use std::fs::File;
+use std::net::{IpAddr, Ipv4Addr, Ipv6Addr, Net, Shutdown, TcpListener, TcpStream};
+use std::os::fd::{AsRawFd, OwnedFd};
+use std::sync::{Arc, Wait};
 use std::time::{Clock, Duration};
 use std::{io, thread};
 
 /// How many milliseconds a listener pauses where no link is there and behind an error that passes.
 const PAUSE: u64 = 10;
+
+/// How many clients may wait in the system's queue, beside those of the accept queue, if the system's own limit is not less.
+const BACKLOG: i32 = 1024;
 
 /// Errors of `accept` that do not pass, of Linux: no such file, no socket, none that listens, no memory of the program's.
 const LASTING: [i32; 4] = [9, 88, 22, 14];
@@ -49,7 +55,7 @@ fn v4(ip: Ipv4Addr) -> Addr {
     }
 }
 
-/// A listener at a port of this machine. No link comes to it once it is let go.
+/// A listener at a port of this machine. No link comes to it once it is dropped, and its doorkeeper ends then.
 #[derive(Drop)]
 pub struct RealListener<R> {
     entrance: Entrance<R>,
@@ -57,11 +63,10 @@ pub struct RealListener<R> {
     ghost capped: { faults ≤ 2 ^ 63 - 1 },
 }
 
-// The socket of a listener, and the links that came and say nothing yet.
+// The socket of a listener. One worker at a time calls it.
 struct Entrance<R> {
     rt: R,
     listener: TcpListener,
-    arrivals: Arrivals,
     times: LinkTimes,
     house: Arc<House>,
 }
@@ -71,10 +76,10 @@ impl<R: Drop> Drop for Entrance<R> {
         let Entrance {
             rt: _,
             listener,
-            arrivals: _,
             times: _,
-            house: _,
+            house,
         } = self;
+        house.close();
         let _ = TcpStream::from(OwnedFd::from(listener)).shutdown(Shutdown::Both);
     }
 }
@@ -108,15 +113,41 @@ impl<R: Net<Listener = TcpListener, Stream = TcpStream> + Copy + Drop> RealListe
     ghost use Rattle.sq_system.specs.Adapters.{accept_faults};
 
     /// A listener at this port, or at a free one for port 0, whose links have these limits of time, what stops it, a dialer for the
-    /// workers that take its links, and a spawner of processes that end with it. The error is the system's, or want of memory.
+    /// workers that take its links, and a spawner of processes that end with it. The error is the system's, out of memory among them.
     pub fn listen(alloc: Global, rt: R, port: u16, times: LinkTimes) -> io::Result<Listening<R>>
         ensures fresh { IfOk result (λ l. accept_faults l.listener ≡ 0) }
     {
         let listener = bind(&rt, port)?;
+        deepen(&listener);
         let socket = socket_of(&listener, times)?;
         let keys = HouseKeys::new(alloc)?;
-        Ok(RealListener::opened(alloc, rt, listener, socket, times, keys))
+        Ok(RealListener::opened(rt, listener, socket, times, keys))
     }
+}
+
+impl<R> RealListener<R> {
+    /// Hands the listener, which is for so many workers, to the doorkeeper of this post.
+    pub(crate) fn keep(
+        &self,
+        alloc: Global,
+        post: &KeeperPost,
+        workers: u32,
+        messages: Option<File>,
+    ) -> io::Result<()> {
+        let house = Arc::try_clone(&self.entrance.house)?;
+        house.set_workers(workers);
+        let listener = self.entrance.listener.try_clone()?;
+        post.give(
+            Doorkeeper::new(alloc, listener, self.entrance.times, messages),
+            house,
+        );
+        Ok(())
+    }
+}
+
+// Gives the system's queue its depth. std makes it 128 deep, and the last call of `listen` counts.
+fn deepen(listener: &TcpListener) {
+    let _ = libc::net::listen(listener.as_raw_fd(), BACKLOG);
 }
 
 // Another handle of a listener's socket, which has its settings then.
@@ -127,6 +158,7 @@ fn socket_of(listener: &TcpListener, times: LinkTimes) -> io::Result<TcpStream> 
 }
 
 // What a listener and those beside it share, for each of the four.
+#[derive(Drop)]
 struct HouseKeys {
     entrance: Arc<House>,
     stopper: Arc<House>,
@@ -154,7 +186,6 @@ impl<R: Copy> RealListener<R> {
 
     // The listener and those beside it, where all is there that they need.
     fn opened(
-        alloc: Global,
         rt: R,
         listener: TcpListener,
         socket: TcpStream,
@@ -172,7 +203,6 @@ impl<R: Copy> RealListener<R> {
         let entrance = Entrance {
             rt,
             listener,
-            arrivals: Arrivals::new(alloc),
             times,
             house,
         };
@@ -207,23 +237,19 @@ fn is_lasting(error: &io::Error) -> bool {
     }
 }
 
+// All of this is called by the one worker that waits for a client, and holds the lock of the accept queue.
 impl<R: Clock> Entrance<R> {
-    // The next link of the socket. It waits for one, for a tick at the most, or only a moment.
-    fn accept(&self, waits: bool) -> NextLink {
-        if !waits && self.listener.set_nonblocking(true).is_err() {
-            return NextLink::Nothing;
-        }
-        let answer = self.listener.accept();
-        if !waits {
-            let _ = self.listener.set_nonblocking(false);
-        }
-        match answer {
+    // The next client of the system's queue. It blocks for a tick, and then until there is one.
+    fn accept(&self) -> NextLink {
+        match self.listener.accept() {
             Ok((stream, peer)) => NextLink::Link(Arrival { stream, peer }),
             Err(e) if is_lasting(&e) => NextLink::Failed,
-            Err(e) => {
-                if !waits || !is_tick(e.kind()) {
-                    thread::sleep(&self.rt, Duration::from_millis(PAUSE));
-                }
+            Err(e) if is_tick(e.kind()) => {
+                ready::wait(&mut [ready::entry(&self.listener, PollFor::Read)], None);
+                NextLink::Nothing
+            }
+            Err(_) => {
+                thread::sleep(&self.rt, Duration::from_millis(PAUSE));
                 NextLink::Nothing
             }
         }
@@ -237,54 +263,87 @@ impl<R: Clock> Entrance<R> {
         }
     }
 
-    // The next link. Where links gave way of late it is one that says something, and others wait.
-    fn find(&mut self, now: Duration) -> NextLink {
-        if self.arrivals.is_empty() && !self.is_crowded() {
-            return self.accept(true);
+    // Waits until a client comes or one says something, which the next call finds.
+    fn gather(&self, queue: &mut Arrivals, now: u64) -> NextLink {
+        if !queue.wait(&self.listener, self.times.crowd) {
+            return NextLink::Nothing;
         }
-        let silent = self.times.tick.saturating_mul(self.times.silent);
-        if let Some(arrival) = self.arrivals.take(now.saturating_sub(silent)) {
-            return NextLink::Link(arrival);
-        }
-        match self.accept(self.arrivals.is_empty()) {
-            NextLink::Link(arrival) => match self.arrivals.keep(now, arrival) {
-                Some(arrival) => NextLink::Link(arrival),
-                None => NextLink::Nothing,
-            },
+        match self.accept() {
+            NextLink::Link(arrival) => {
+                if queue.has_room() {
+                    queue.put(now, arrival);
+                }
+                NextLink::Nothing
+            }
             found => found,
         }
     }
 
-    // The same, and others see that this one waits.
-    fn seek(&mut self) -> NextLink {
-        let begun = self.rt.monotonic().unwrap_or(Duration::ZERO);
-        self.house.enter();
-        let found = self.find(begun);
-        let ended = self.rt.monotonic().unwrap_or(Duration::MAX);
-        self.house.leave(ended.saturating_sub(begun));
-        found
+    // The next client. One of the accept queue has said something; another is taken at once where nobody is in that queue, and no link
+    // gave way of late.
+    fn find(&self, queue: &mut Arrivals) -> NextLink {
+        if queue.is_empty() && !self.is_crowded() {
+            return self.accept();
+        }
+        let now = now(&self.rt);
+        let silent = self.times.silent.as_millis().min(1 << 60) as u64;
+        match queue.take_speaking(now, now.saturating_sub(silent)) {
+            Some(arrival) => NextLink::Link(arrival),
+            None => self.gather(queue, now),
+        }
     }
 }
 
-impl<R: Files + Clock + Copy + Drop> Entrance<R> {
+impl<R: Clock + Wait> Entrance<R> {
+    // The same until there is one, the socket fails, or the server is stopped. The worker in this slot is back from its last client.
+    fn seek(&self, slot: &Option<Arc<ClientSlot>>) -> NextLink {
+        let mut queue = self.house.queue.lock(&self.rt);
+        if let Some(slot) = slot {
+            slot.come_back();
+        }
+        for _ in 0..u64::MAX {
+            let found = self.find(&mut queue);
+            if self.house.is_stopped() {
+                queue.clear();
+                return NextLink::Nothing;
+            }
+            match found {
+                NextLink::Nothing => {}
+                found => return found,
+            }
+        }
+        NextLink::Nothing
+    }
+}
+
+impl<R: Clock + Wait + Copy + Drop> Entrance<R> {
     ghost use Rattle.sq_system.specs.Adapters.{in_faults, out_faults};
 
-    // Both halves of a link that came, for the worker that calls.
-    fn halves(&self, alloc: Global, stream: TcpStream) -> Option<(RealIn<R>, RealOut<R>)>
+    // Both halves of a link that came, for the worker in this slot.
+    fn halves(
+        &self,
+        alloc: Global,
+        stream: TcpStream,
+        slot: &Option<Arc<ClientSlot>>,
+    ) -> Option<(RealIn<R>, RealOut<R>)>
         ensures fresh { IfSome result (λ h. (in_faults h.0 ≡ 0) × (out_faults h.1 ≡ 0)) }
     {
-        let seat = self.house.seat(&self.rt, alloc);
         let house = Arc::try_clone(&self.house).ok()?;
-        RealIn::accepted(alloc, self.rt, stream, self.times, house, seat)
+        RealIn::accepted(alloc, self.rt, stream, self.times, house, copy_of(slot))
     }
 
     // The link that came, if there is memory for it.
-    fn let_in(&self, alloc: Global, arrival: Arrival) -> Option<Accepted<RealIn<R>, RealOut<R>>>
+    fn let_in(
+        &self,
+        alloc: Global,
+        arrival: Arrival,
+        slot: &Option<Arc<ClientSlot>>,
+    ) -> Option<Accepted<RealIn<R>, RealOut<R>>>
         ensures fresh { IfSome result
             (λ a. IfLink a (λ from to addr port. (in_faults from ≡ 0) × (out_faults to ≡ 0))) }
     {
         let Arrival { stream, peer } = arrival;
-        let (from, to) = self.halves(alloc, stream)?;
+        let (from, to) = self.halves(alloc, stream, slot)?;
         Some(Accepted::Link {
             from,
             to,
@@ -298,14 +357,15 @@ impl<R: Files + Clock + Copy + Drop> Entrance<R> {
         ensures fresh { IfLink result
             (λ from to addr port. (in_faults from ≡ 0) × (out_faults to ≡ 0)) }
     {
+        let slot = self.house.seat(alloc);
         for _ in 0..u64::MAX {
-            let found = self.seek();
+            let found = self.seek(&slot);
+            self.house.leave();
             if self.house.is_stopped() {
-                self.arrivals.clear();
                 return Accepted::Stopped;
             }
             match found {
-                NextLink::Link(arrival) => match self.let_in(alloc, arrival) {
+                NextLink::Link(arrival) => match self.let_in(alloc, arrival, &slot) {
                     Some(accepted) => return accepted,
                     None => thread::sleep(&self.rt, Duration::from_millis(PAUSE)),
                 },
@@ -317,7 +377,7 @@ impl<R: Files + Clock + Copy + Drop> Entrance<R> {
     }
 }
 
-impl<R: Files + Clock + Copy + Send + Drop> Listener for RealListener<R> {
+impl<R: Clock + Wait + Copy + Send + Drop> Listener for RealListener<R> {
     type In = RealIn<R>;
 
     type Outgo = RealOut<R>;

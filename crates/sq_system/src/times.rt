@@ -1,24 +1,36 @@
 //! How long links, dials and the answers of helper processes may take.
 use std::time::Duration;
 
-/// How long links, dials and the answers of helper processes may take. A call that waits for a link looks around at each tick: then a
-/// link fails on which nothing passed in either direction for too many ticks. How many that are hangs on who else waits, and on whether
-/// its server is stopped. Who waits for what a process writes looks around at each tick, too.
+/// How long links, dials and the answers of helper processes may take. Those that speak of a client that waits begin to count only
+/// while one waits for a worker and none is free.
 #[derive(Clone, Copy)]
 pub struct LinkTimes {
-    /// How long a tick is.
+    /// How long a call blocks in its own socket before it waits for readiness, which takes another call of the system. Who reads what
+    /// a process writes looks around so often, too.
     pub tick: Duration,
-    /// How many silent ticks a link may have.
-    pub silent: u32,
-    /// How many a client's link may have that is between requests, where nobody waits for the next link.
-    pub spare: u32,
-    /// How many any other link may have then.
-    pub held: u32,
-    /// How many any other link may have where the server is stopped.
-    pub ending: u32,
+    /// How long nothing may pass on a link in either direction.
+    pub silent: Duration,
+    /// How long a read waits that is to return where nothing comes.
+    pub soon: Duration,
+    /// How long a head, or the line of a chunk, may take in all from its first byte.
+    pub head: Duration,
+    /// How long it may take where a client waits for a worker.
+    pub head_wanted: Duration,
+    /// How long after its last byte a link is kept, whoever waits.
+    pub used: Duration,
+    /// How long a link is kept on which no byte ever passed, whoever waits.
+    pub unused: Duration,
+    /// How often the doorkeeper looks around while clients wait or the server ends.
+    pub look: Duration,
+    /// How long a client waits before a message says so.
+    pub full: Duration,
+    /// How long a message is not repeated.
+    pub quiet: Duration,
+    /// How long a link may be silent where the server is stopped.
+    pub ending: Duration,
     /// How long links may go on where the server is stopped.
     pub end: Duration,
-    /// How long links that say nothing wait without a worker, where one gave way before.
+    /// How long after a link gave way clients that say nothing get no worker.
     pub crowd: Duration,
     /// How long one address of a host may take to be reached.
     pub address: Duration,
@@ -31,16 +43,20 @@ pub struct LinkTimes {
 }
 
 impl LinkTimes {
-    /// Those of a server: ticks of half a second, two minutes for a silent link, two seconds for one that is idle and ten for
-    /// another where they are wanted, half a minute to end, ten seconds for an address, half a minute for a host, a minute for an
-    /// answer, and five seconds at the end.
+    /// Returns the limits of a server.
     pub fn of_server() -> LinkTimes {
         LinkTimes {
             tick: Duration::from_millis(500),
-            silent: 240,
-            spare: 4,
-            held: 20,
-            ending: 2,
+            silent: Duration::from_secs(120),
+            soon: Duration::from_secs(5),
+            head: Duration::from_secs(60),
+            head_wanted: Duration::from_secs(10),
+            used: Duration::from_secs(10),
+            unused: Duration::from_secs(2),
+            look: Duration::from_millis(50),
+            full: Duration::from_secs(1),
+            quiet: Duration::from_secs(60),
+            ending: Duration::from_secs(1),
             end: Duration::from_secs(30),
             crowd: Duration::from_secs(10),
             address: Duration::from_secs(10),

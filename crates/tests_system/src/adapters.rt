@@ -8,5 +8,6 @@ mod helpers;
 mod hosts;
 mod limits;
 mod links;
+mod names;
 mod readers;
 mod refusals;

@@ -3,8 +3,10 @@ use sq_base::{Text, WantOfMemory};
 use sq_outside::{Accepted, Dialer, Failed, LinkUse, Listener, Out, Source, read_whole, write_all};
 use sq_system::{RealDialer, RealIn, RealListener, RealOut};
 use std::alloc::Global;
+use std::fs::File;
 use std::net::{Net, TcpStream};
 use std::rt::Files;
+use std::sync::Wait;
 use std::thread::Threads;
 use std::time;
 
@@ -46,12 +48,16 @@ pub fn receives<S: Source>(alloc: Global, from: &mut S, mark: u8) -> bool {
 pub type Halves<R> = (RealIn<R>, RealOut<R>);
 
 /// Dials this machine by this host.
-pub fn dials<R: Net<Stream = TcpStream> + time::Clock + Files + Threads + Copy + Send + Drop>(
-    alloc: Global,
-    dialer: &mut RealDialer<R>,
-    host: &[u8],
-    port: u16,
-) -> Result<Halves<R>, Failed> {
+pub fn dials<
+    R: Net<Stream = TcpStream>
+        + time::Clock
+        + Files<File = File>
+        + Threads
+        + Wait
+        + Copy
+        + Send
+        + Drop,
+>(alloc: Global, dialer: &mut RealDialer<R>, host: &[u8], port: u16) -> Result<Halves<R>, Failed> {
     let Ok(host) = Text::from_slice(alloc, host) else {
         return Err(Failed);
     };
@@ -59,7 +65,7 @@ pub fn dials<R: Net<Stream = TcpStream> + time::Clock + Files + Threads + Copy +
 }
 
 /// The halves of the next link, if one came.
-pub fn accepts<R: time::Clock + Files + Copy + Send + Drop>(
+pub fn accepts<R: time::Clock + Files + Wait + Copy + Send + Drop>(
     alloc: Global,
     listener: &mut RealListener<R>,
 ) -> Option<Halves<R>> {

@@ -4,10 +4,11 @@ use sq_outside::{Another, Dialer, Sink, Source};
 use sq_system::{LinkTimes, RealDialer, RealListener};
 use std::alloc::Global;
 use std::rt::Files;
+use std::sync::Wait;
 use std::{thread, time};
 
 /// The other side: reads a long text to its end, and then sends one. Whether all went well.
-fn replies<R: time::Clock + Files + Copy + Send + Drop>(
+fn replies<R: time::Clock + Files + Wait + Copy + Send + Drop>(
     alloc: Global,
     mut listener: RealListener<R>,
 ) -> bool {

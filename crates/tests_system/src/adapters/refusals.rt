@@ -49,10 +49,10 @@ fn what_is_no_host_is_not_reached(rt: HostRuntime) {
 fn a_port_is_taken_once_and_free_again(rt: HostRuntime) {
     let alloc = rt.alloc();
     let mut net = RealNet::new(rt);
-    let parts = net.parts(alloc, 0).expect(&rt, "a port");
+    let parts = net.parts(alloc, 0, 1).expect(&rt, "a port");
     let port = parts.listener.port().expect(&rt, "a port");
     assert!(rt; RealListener::listen(alloc, rt, port, LinkTimes::of_server()).is_err());
-    assert!(rt; net.parts(alloc, port).is_err());
+    assert!(rt; net.parts(alloc, port, 1).is_err());
     let mut dialer = parts.dialer;
     assert!(rt; dials(alloc, &mut dialer, b"127.0.0.1", port).is_ok());
     net.give_back(parts.listener);

@@ -6,5 +6,6 @@
 //! bytes a read gives and a write takes.
 mod failing;
 mod links;
+mod pieces;
 mod running;
 mod turns;

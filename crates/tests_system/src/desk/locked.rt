@@ -19,7 +19,7 @@ use sq_journal::{MemJournal, print_entry, read_entry};
 use sq_machine::{Entry, Event, Offset, Told};
 use sq_outside_mem::MemClock;
 use sq_pools::{Bank, Pools, TagPools};
-use sq_rewrite::{LockRewriter, Rewriter, RewriterHall, RewriterRoom};
+use sq_rewrite::{LockRewriter, Rewriter, RewriterRoom};
 use sq_rules::Config;
 use sq_shared::{Asks, ControlDesk, Grants, Ledgers, LockDesk, Makes, Refusals, Room};
 use sq_turns::Hub;
@@ -351,7 +351,7 @@ fn run_locked<R: Wait + Abort, D: DeskCalls, B: Ledgers>(
     requires granted { (pools.0.granted ≡ 0) × (pools.1.granted ≡ 0) }
 {
     let (room, bank, wholes) = lock::<D, B>(alloc, desk, pools, blanks);
-    let beside = RewriterRoom::new(RewriterHall::new(rewriter));
+    let beside = RewriterRoom::new(alloc, rewriter, 1).expect(rt, "memory");
     let Back { asked, made } = run_table(
         rt, alloc, config, &beside, &room, &bank, clock, wholes, table, text,
     );

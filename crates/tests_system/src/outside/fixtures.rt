@@ -92,7 +92,7 @@ pub fn net<'a, R: Abort>(
 
 /// Opens the net, asks its listener to stop, and says whether it then stopped.
 pub fn stops(alloc: Global, net: &mut MemNet<'_>) -> bool {
-    match net.parts(alloc, 3128) {
+    match net.parts(alloc, 3128, 1) {
         Ok(parts) => {
             let Parts {
                 mut listener,

@@ -118,8 +118,13 @@ impl<'a> Net for PairedNet<'a> {
 
     ghost capped = { λ n. n.few };
 
-    fn parts(&mut self, alloc: Global, port: u16) -> Result<Parts<PairedNet<'a>>, Failed> {
-        let opened = self.net.parts(alloc, port);
+    fn parts(
+        &mut self,
+        alloc: Global,
+        port: u16,
+        workers: u32,
+    ) -> Result<Parts<PairedNet<'a>>, Failed> {
+        let opened = self.net.parts(alloc, port, workers);
         has_limit(&self.net);
         match opened {
             Ok(parts) => {

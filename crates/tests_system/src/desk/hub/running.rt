@@ -5,6 +5,7 @@ use sq_base::{Addr, ConnNo, Copying, Moment, Text};
 use sq_conf::read_config;
 use sq_forward::{Ahead, Duplex, Half};
 use sq_mem_hub::MemHub;
+use sq_outside::Source;
 use sq_outside_mem::{MemDialer, MemOrigin, MemOut, MemPair, MemShape, MemSink, MemSource, Wire};
 use sq_session::{SessionEnd, session};
 use sq_turns::HubFront;
@@ -68,7 +69,7 @@ static ORIGINS: [(&str, u16); 8] = [
 const REPLY: &str = "HTTP/1.1 204 No Content\r\n\r\n";
 
 /// More than any link carries.
-const ROOM: usize = 4096;
+const ROOM: usize = 8_192;
 
 /// An object of a session of which a call fails.
 #[derive(Clone, Copy, PartialEq, Eq, Debug)]
@@ -202,6 +203,21 @@ pub fn run_over<R: Threads + Wait + Sync + Abort>(
     call: u64,
     links: &Links,
 ) -> Ran {
+    let input = input.copy(alloc).expect(rt, "memory").into_vec();
+    let reads = fails(rt, alloc, links.fault, ClientRead);
+    let source = MemSource::new(input, links.step, reads);
+    let (ran, _) = run_from(rt, alloc, source, call, links);
+    ran
+}
+
+/// The same of a client that is heard by this source, which is handed back.
+pub fn run_from<R: Threads + Wait + Sync + Abort, S: Source + Send + Drop>(
+    rt: &R,
+    alloc: Global,
+    source: S,
+    call: u64,
+    links: &Links,
+) -> (Ran, S) {
     let client = Addr {
         v6: false,
         number: 0x0A01_0203,
@@ -209,11 +225,9 @@ pub fn run_over<R: Threads + Wait + Sync + Abort>(
     let wire = Wire::new(alloc, ROOM).expect(rt, "memory");
     let writes = fails(rt, alloc, links.fault, ClientWrite);
     let sink = MemSink::new(alloc, ROOM, links.step, writes).expect(rt, "memory");
-    let input = input.copy(alloc).expect(rt, "memory").into_vec();
-    let reads = fails(rt, alloc, links.fault, ClientRead);
-    let mut link: Duplex<(MemSource, MemOut)> = Duplex {
+    let mut link: Duplex<(S, MemOut)> = Duplex {
         from: Half {
-            source: MemSource::new(input, links.step, reads),
+            source,
             ahead: Ahead::new(alloc),
         },
         to: MemOut::new(sink, Some(&wire)),
@@ -223,10 +237,13 @@ pub fn run_over<R: Threads + Wait + Sync + Abort>(
     let mut front = HubFront::new(rt, hub, ConnNo(1));
     let end = session(rt, alloc, &mut link, client, 4000, &mut front, &mut dialer);
     let hub = front.finish();
-    Ran {
+    let Duplex { from, to: _ } = link;
+    let Half { source, ahead: _ } = from;
+    let ran = Ran {
         end,
         text: wire.text(alloc).expect(rt, "memory"),
         sent: sent(rt, alloc, &dialer),
         failed: hub.failed(),
-    }
+    };
+    (ran, source)
 }

@@ -1,0 +1,244 @@
+//! The connecting to one of several addresses: the trusted edge. It relies on sockets that connect while others do, and on the
+//! system telling of each when it is connected or has failed.
+
+use crate::doorkeeper::millis;
+use crate::house::now;
+use crate::look_ups::{FoundAddrs, Known, Wanting};
+use crate::names::{Goal, tried_so};
+use crate::times::LinkTimes;
+use mio::net::TcpStream as Trying;
+use mio::{Events, Interest, Poll, Token};
+use sq_base::Addr;
+use std::alloc::Global;
+use std::mem;
+use std::net::{IpAddr, Ipv4Addr, Ipv6Addr, Net, SocketAddr, TcpStream};
+use std::time::{Clock, Duration};
+
+/// After how many milliseconds the next address is tried, where those before it say nothing (RFC 8305 section 5).
+const NEXT: u64 = 250;
+
+/// How often who dials looks around.
+const TICK: u64 = 250;
+
+/// Behind how many milliseconds a dial to an address that failed of late gives way to a client that waits for a worker.
+const GIVES_WAY: u64 = 2_000;
+
+// A socket that connects.
+#[derive(Drop)]
+struct Attempt {
+    place: usize,
+    begun: u64,
+    late: bool,
+    stream: Trying,
+}
+
+fn socket_addr(addr: Addr, port: u16) -> SocketAddr {
+    let ip = if addr.v6 {
+        IpAddr::V6(Ipv6Addr::from_bits(addr.number))
+    } else {
+        IpAddr::V4(Ipv4Addr::from_bits(addr.number as u32))
+    };
+    SocketAddr::new(ip, port)
+}
+
+// What a socket has come to.
+#[derive(Drop)]
+enum Came {
+    Connected,
+    Failed,
+    Nothing,
+}
+
+fn state_of(stream: &Trying) -> Came {
+    match stream.take_error() {
+        Ok(None) => {}
+        _ => return Came::Failed,
+    }
+    match stream.peer_addr() {
+        Ok(_) => Came::Connected,
+        Err(_) => Came::Nothing,
+    }
+}
+
+// The order in which the addresses are tried.
+fn order(alloc: Global, found: &FoundAddrs, now: u64) -> Option<Vec<Goal>> {
+    let mut goals = Vec::new(alloc);
+    for (place, known) in found.known.iter().enumerate() {
+        goals
+            .push(Goal {
+                place,
+                v6: known.addr.v6,
+                late: known.is_late(now),
+            })
+            .ok()?;
+    }
+    Some(tried_so(alloc, goals.as_slice()).ok()?.into_vec())
+}
+
+// The sockets of one dial.
+#[derive(Drop)]
+struct Race<'a> {
+    known: &'a [Known],
+    port: u16,
+    times: LinkTimes,
+    poll: Option<Poll>,
+    attempts: Vec<Attempt>,
+}
+
+impl<'a> Race<'a> {
+    fn mark(&self, place: usize, now: u64) {
+        if let Some(known) = self.known.get(place) {
+            known.fail(now);
+        }
+    }
+
+    // Begins with one address more. Answers the socket if it is connected at once.
+    fn begin<R: Net>(&mut self, rt: &R, goal: Goal, now: u64) -> Option<Trying> {
+        let place = goal.place;
+        let known = self.known.get(place)?;
+        let mut stream = match Trying::connect(rt, socket_addr(known.addr, self.port)) {
+            Ok(stream) => stream,
+            Err(_) => {
+                self.mark(place, now);
+                return None;
+            }
+        };
+        match state_of(&stream) {
+            Came::Connected => return Some(stream),
+            Came::Failed => {
+                self.mark(place, now);
+                return None;
+            }
+            Came::Nothing => {}
+        }
+        if self.poll.is_none() {
+            self.poll = Poll::new(rt).ok();
+        }
+        let poll = self.poll.as_ref()?;
+        poll.registry()
+            .register(&mut stream, Token(place), Interest::WRITABLE)
+            .ok()?;
+        self.attempts
+            .push(Attempt {
+                place,
+                begun: now,
+                late: goal.late,
+                stream,
+            })
+            .ok()?;
+        None
+    }
+
+    // Takes the first socket that is connected, and lets those go that have failed or took too long. The others have lost then.
+    fn look(&mut self, alloc: Global, now: u64) -> Option<Trying> {
+        let longest = millis(self.times.address);
+        let attempts = mem::replace(&mut self.attempts, Vec::new(alloc));
+        let mut won = None;
+        for attempt in attempts {
+            if won.is_some() {
+                self.mark(attempt.place, now);
+                continue;
+            }
+            match state_of(&attempt.stream) {
+                Came::Connected => won = Some(attempt.stream),
+                Came::Nothing if now.saturating_sub(attempt.begun) < longest => {
+                    let place = attempt.place;
+                    if self.attempts.push(attempt).is_err() {
+                        self.mark(place, now);
+                    }
+                }
+                _ => self.mark(attempt.place, now),
+            }
+        }
+        if won.is_some() {
+            self.lose(now);
+        }
+        won
+    }
+
+    // All that are under way have lost.
+    fn lose(&self, now: u64) {
+        for attempt in &self.attempts {
+            self.mark(attempt.place, now);
+        }
+    }
+
+    fn is_late(&self) -> bool {
+        self.attempts.iter().any(|attempt| attempt.late)
+    }
+
+    // Waits until a socket says something, for so many milliseconds at most.
+    fn wait(&mut self, events: &mut Events<Global>, time: u64) {
+        if let Some(poll) = &mut self.poll {
+            let _ = poll.poll(events, Some(Duration::from_millis(time)));
+        }
+    }
+}
+
+/// A socket of the address that answers first. An address is tried 250 ms behind the one before it, or at once where none is under
+/// way. None where all fail, where it is too late for a host, or where nobody wants it any more.
+#[inline(never)]
+pub(crate) fn connect<R: Net + Clock>(
+    rt: &R,
+    alloc: Global,
+    found: &FoundAddrs,
+    port: u16,
+    times: LinkTimes,
+    begun: u64,
+    wanting: &Wanting<'_>,
+) -> Option<TcpStream> {
+    let mut events = Events::with_capacity(alloc, 32).ok()?;
+    let order = order(alloc, found, now(rt))?;
+    let mut race = Race {
+        known: found.known.as_slice(),
+        port,
+        times,
+        poll: None,
+        attempts: Vec::new(alloc),
+    };
+    let mut at = 0;
+    let mut last = 0;
+    for _ in 0..u32::MAX {
+        let time = now(rt);
+        if let Some(stream) = race.look(alloc, time) {
+            return settled(stream);
+        }
+        let spent = time.saturating_sub(begun);
+        if spent >= millis(times.host) {
+            race.lose(time);
+            return None;
+        }
+        if wanting.is_over() {
+            return None;
+        }
+        if spent >= GIVES_WAY && race.is_late() && wanting.is_crowded() {
+            return None;
+        }
+        if race.attempts.is_empty() || time.saturating_sub(last) >= NEXT {
+            match order.get(at) {
+                Some(goal) => {
+                    at = at.saturating_add(1);
+                    last = time;
+                    if let Some(stream) = race.begin(rt, *goal, time) {
+                        race.lose(time);
+                        return settled(stream);
+                    }
+                    if race.attempts.is_empty() {
+                        continue;
+                    }
+                }
+                None if race.attempts.is_empty() => return None,
+                None => {}
+            }
+        }
+        race.wait(&mut events, TICK);
+    }
+    None
+}
+
+// The socket, whose calls wait from now on.
+fn settled(stream: Trying) -> Option<TcpStream> {
+    let stream = TcpStream::from(stream);
+    stream.set_nonblocking(false).ok()?;
+    Some(stream)
+}
