@@ -1,0 +1,1 @@
+"""The parts of tests/thousand.py: the proxies, an origin, clients, and the scenes."""
