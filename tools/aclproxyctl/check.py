@@ -3,10 +3,10 @@
 import os
 import tempfile
 from dataclasses import dataclass
-from typing import Optional, TextIO
+from typing import Callable, Optional, TextIO
 
 from aclproxyctl import words
-from aclproxyctl.confs import PREDEFINED, Conf, Line, read, without
+from aclproxyctl.confs import PREDEFINED, Conf, Line, read, taken_out, without
 from aclproxyctl.errors import DONE, INTERNAL, NO, NOT_UTF8, UserError
 from aclproxyctl.program import ask
 from aclproxyctl.warnings import Warned, of_conf
@@ -58,21 +58,26 @@ class Fault:
     conf: Conf
 
 
-def all_faults(program: str, conf: Conf, first: tuple[int, int]) -> tuple[list[Fault], bool]:
-    """The first fault and those that come to light when each faulty line is taken out, and whether there may be more."""
+def all_faults(program: str, conf: Conf, first: tuple[int, int], most: int = MOST, stand_in: Callable[[Line], bytes] = taken_out) -> tuple[list[Fault], bool]:
+    """The first fault and those that come to light when each faulty line is taken out, and whether there may be more.
+
+    `stand_in` gives what is judged in the place of a faulty line.
+    """
     faults = [Fault(first[0], first[1], None, conf)]
     left_out: list[Line] = []
-    while len(faults) < MOST:
+    while len(faults) < most:
         line = conf.line(faults[-1].number)
         if line is None or line in left_out:
             # A fault of the whole file, at line 0: no line can be taken out for it.
             return faults, False
         left_out.append(line)
-        rest = Conf(without(conf.source, left_out))
+        rest = Conf(without(conf.source, left_out, stand_in))
         judged = judge_source(program, rest.source)
         if judged.fault is None:
             return faults, False
-        faults.append(Fault(*judged.fault, follows=cause_of(conf, judged.fault, left_out), conf=rest))
+        # A rule does not miss a list that another one stands in for.
+        follows = None if judged.fault[1] == 7 and stand_in is not taken_out else cause_of(conf, judged.fault, left_out)
+        faults.append(Fault(*judged.fault, follows=follows, conf=rest))
     return faults, True
 
 
@@ -154,13 +159,15 @@ def tell_warnings(out: TextIO, path: str, warned: list[Warned]) -> None:
         out.write(f"    {warning.line.shown()}\n")
 
 
-def check(out: TextIO, program: str, path: str, offset: Optional[int]) -> int:
+def check(out: TextIO, program: str, path: str, offset: Optional[int], workers: Optional[int] = None, quiet: bool = False) -> int:
     """The command: judges the file, and says in words what came of it."""
     source = read(path)
     conf = Conf(source)
     judged = judge(program, path)
     if judged.fault is not None:
         return tell_refused(out, program, path, conf, judged.fault)
+    if quiet:
+        return DONE
     for number, directive in judged.notices:
         line = conf.line(number)
         out.write(f"{path}:{number}: no effect: {words.of_notice(line, directive)}\n")
@@ -169,7 +176,7 @@ def check(out: TextIO, program: str, path: str, offset: Optional[int]) -> int:
     looked_up = any(line.words[:2] == [b"dst_lookup", b"on"] for line in conf.lines) and all(
         directive != "dst_lookup" for _, directive in judged.notices
     )
-    tell_warnings(out, path, of_conf(conf, offset, looked_up))
+    tell_warnings(out, path, of_conf(conf, offset, looked_up, workers))
     assert judged.counts is not None
     tell_counts(out, path, judged.counts)
     return DONE

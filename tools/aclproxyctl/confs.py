@@ -3,7 +3,7 @@
 import re
 from dataclasses import dataclass
 from pathlib import Path
-from typing import Optional
+from typing import Callable, Optional
 
 from aclproxyctl.errors import of_system
 
@@ -83,12 +83,18 @@ def read(path: str) -> bytes:
         raise of_system(fault, path) from None
 
 
-def without(source: bytes, lines: list[Line]) -> bytes:
-    """The file with these lines taken out, so that all others keep their numbers."""
+def taken_out(line: Line) -> bytes:
+    """What stands in the place of a line that is taken out."""
+    return b"#"
+
+
+def without(source: bytes, lines: list[Line], stand_in: Callable[[Line], bytes] = taken_out) -> bytes:
+    """The file with these lines taken out, or others in their place, so that all others keep their numbers."""
     parts = source.split(b"\n")
     for line in lines:
         for place in range(line.number - 1, line.last):
             parts[place] = b"#"
+        parts[line.number - 1] = stand_in(line)
     return b"\n".join(parts)
 
 

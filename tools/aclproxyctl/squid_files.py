@@ -6,8 +6,11 @@ from dataclasses import dataclass, field
 from typing import Iterator, Optional
 
 from aclproxyctl.confs import Line, lines_of, read
+from aclproxyctl.errors import SYSTEM, UserError, of_system
 
 DEEPEST_INCLUDE = 16
+# How the first line of a file begins that a conversion wrote.
+WRITTEN = "# Converted by aclproxyctl from "
 
 
 @dataclass(frozen=True)
@@ -26,11 +29,12 @@ class Item:
 
 @dataclass
 class Stop:
-    """What would change a verdict: where, why, and what to write instead."""
+    """What would change: where, why, what to write instead, and the word of `--accept` that goes on without it."""
 
     item: Item
     why: str
     instead: str = ""
+    accept: str = ""
 
 
 @dataclass
@@ -59,8 +63,13 @@ class Converted:
         self.text.append(text)
         self.origins.append(item)
 
-    def stop(self, item: Item, why: str, instead: str = "") -> None:
-        self.stops.append(Stop(item, why, instead))
+    def stand_in(self, item: Item, line: str) -> None:
+        """A line in the place of one that stops, so that what stands behind it is judged as well. It is never written."""
+        self.text.append(line)
+        self.origins.append(item)
+
+    def stop(self, item: Item, why: str, instead: str = "", accept: str = "") -> None:
+        self.stops.append(Stop(item, why, instead, accept))
 
     def warn(self, item: Item, text: str) -> None:
         self.warned.append((item, text))
@@ -109,3 +118,28 @@ def values_of_file(path: str) -> list[str]:
             start = raw.index(kept[0])
             values.append(raw[start : raw.rindex(kept[-1], start) + len(kept[-1])] if len(kept) > 1 else kept[0])
     return values
+
+
+def write_converted(found: Converted, path: str, to: Optional[str]) -> str:
+    """The whole new text. It is written to the file `to`, unless that is there and no conversion wrote it."""
+    source = f"{WRITTEN}{os.path.basename(path)}. What changes nothing is commented out.\n" + "".join(line + "\n" for line in found.text)
+    if to is None:
+        return source
+    try:
+        if os.path.lexists(to):
+            with open(to, encoding="utf-8", errors="replace") as file:
+                if not file.readline().startswith(WRITTEN):
+                    raise UserError(SYSTEM, f"{to} is there already, and no conversion wrote it: name another file, or take it away first")
+            # It takes the place of the old one whole, and has its mode.
+            mode = os.stat(to).st_mode & 0o777
+            beside = f"{to}.new"
+            with open(beside, "w", encoding="utf-8", errors="replace") as file:
+                os.fchmod(file.fileno(), mode)
+                file.write(source)
+            os.replace(beside, os.path.realpath(to))
+        else:
+            with open(to, "x", encoding="utf-8", errors="replace") as file:
+                file.write(source)
+    except OSError as fault:
+        raise of_system(fault, to) from None
+    return source

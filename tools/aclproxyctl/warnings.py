@@ -8,6 +8,10 @@ from typing import Iterator, Optional
 from aclproxyctl.confs import PREDEFINED, Conf, Line
 
 GROUPS = (b"any-of", b"all-of")
+# The workers that `aclproxyctl run` and the package's unit start the proxy with.
+WORKERS = 1024
+# How many names are looked up at once where `dst_lookup on` does not say; twice as many questions wait.
+LOOKUPS = 8
 
 
 @dataclass(frozen=True)
@@ -99,7 +103,7 @@ def of_rules(conf: Conf, lists: Lists, looked_up: bool) -> Iterator[Warned]:
             yield Warned(
                 line,
                 f"{names} of type dst holds of hosts that are written as addresses: who writes a name, as `localhost` or one of their "
-                "own that stands for such an address, passes. Put `dst_lookup on` first in the file, where the program knows it",
+                "own that stands for such an address, passes. Put `dst_lookup on` first in the file",
             )
         for kind, seen in ((b"dstdomain", "the name that the client gives for the tunnel is seen: what is asked for inside is not"),
                            (b"url_regex", "host and port are seen, as `host:443`: a pattern over a path or `https://` never holds")):
@@ -137,8 +141,35 @@ def of_times(lists: Lists, offset: Optional[int]) -> Iterator[Warned]:
             return
 
 
-def of_conf(conf: Conf, offset: Optional[int], looked_up: bool) -> list[Warned]:
+def of_lookups(conf: Conf, looked_up: bool) -> Iterator[Warned]:
+    """What the number of look-ups means, where the file leaves it as it is."""
+    for line in conf.lines:
+        if not looked_up or line.words[:2] != [b"dst_lookup", b"on"]:
+            continue
+        stated = {word.partition(b"=")[0]: word.partition(b"=")[2] for word in line.words[2:]}
+        at_once = stated.get(b"children-max", str(LOOKUPS).encode())
+        if b"queue-size" in stated or not at_once.isdigit():
+            continue
+        yield Warned(
+            line,
+            f"{int(at_once)} names are looked up at once and {2 * int(at_once)} wait; a request for one name more is denied (QueueFull), so a page with many "
+            "new names may lack parts. `dst_lookup on children-max=64 queue-size=4096` has room for many clients",
+        )
+
+
+def of_counts(lists: Lists, workers: Optional[int]) -> Iterator[Warned]:
+    """Lists of connections that never hold: a process has at most one connection for each worker."""
+    most = WORKERS if workers is None else workers
+    for name, lines in lists.lines.items():
+        for line in lines if lists.types[name] == b"maxconn" else []:
+            number = line.word(3)
+            if number.isdecimal() and int(number) >= most:
+                started = f"--workers {most}" if workers is not None else f"--workers {most}, as the package starts it,"
+                yield Warned(line, f"with {started} an address never has more than {most} connections, so this list never holds: state a lower number")
+
+
+def of_conf(conf: Conf, offset: Optional[int], looked_up: bool, workers: Optional[int] = None) -> list[Warned]:
     """All warnings of a file, in the order of its lines."""
     lists = Lists(conf)
-    found = [*of_lines(conf, lists), *of_rules(conf, lists, looked_up), *of_times(lists, offset)]
+    found = [*of_lines(conf, lists), *of_rules(conf, lists, looked_up), *of_times(lists, offset), *of_lookups(conf, looked_up), *of_counts(lists, workers)]
     return sorted(found, key=lambda warned: warned.line.number)

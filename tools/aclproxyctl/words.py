@@ -6,7 +6,7 @@ from typing import Optional
 from urllib.parse import unquote
 
 from aclproxyctl.confs import PREDEFINED, Conf, Line
-from aclproxyctl.squid_directives import NO_EFFECT
+from aclproxyctl.squid_directives import TABLE, Class
 
 FORMS = {
     "acl": "acl NAME TYPE VALUE ...",
@@ -18,7 +18,7 @@ FORMS = {
     "delay_parameters": "delay_parameters POOL RESTORE/MAX ..., one pair (or none) for each bucket of its class, behind its delay_class",
     "delay_initial_bucket_level": "delay_initial_bucket_level PERCENT, from 0 to 100",
     "http_port": "http_port PORT, with PORT from 1 to 65535",
-    "dst_lookup": "dst_lookup on|off, as the first line of the file with words in it",
+    "dst_lookup": "dst_lookup off, or dst_lookup on [children-max=N] [queue-size=M], as the first line of the file with words in it",
     "url_rewrite_program": "url_rewrite_program PROGRAM [ARGUMENT ...], once",
     "url_rewrite_children": "url_rewrite_children MAX [startup=N] [idle=N] [concurrency=N] [queue-size=N], with MAX from 1 to 1024, once",
     "request_header_access": "request_header_access NAME allow|deny TERM ...",
@@ -119,7 +119,7 @@ KINDS = {
         "an option is not known here",
         "Squid has further options",
         "known are ttl= negative_ttl= grace= cache= children-max= children-startup= children-idle= concurrency= queue-size= "
-        "protocol=3.0 quote=url ipv4 ipv6; of url_rewrite_children startup= idle= concurrency= queue-size=",
+        "protocol=3.0 quote=url ipv4 ipv6; of url_rewrite_children startup= idle= concurrency= queue-size=; of dst_lookup children-max= queue-size=",
     ),
     12: Kind(
         "UnknownToken",
@@ -157,7 +157,7 @@ KINDS = {
         "the file passes a limit: 1,048,576 bytes, 4,096 lists, 10,000 lines of http_access, 10,000 of header access, 64 helpers, "
         "64 pools, 32 tokens of a format",
         "Squid has no such limit, or another",
-        "put values together on one list, or let a helper look into a long list",
+        "put values together on one list, or let a helper look into a long list, as aclproxy-domains does",
     ),
     18: Kind(
         "TooDeep",
@@ -308,6 +308,8 @@ def of_value(line: Line, words: list[str]) -> str:
         if modes:
             return f"`{modes[0]}`: clients name this proxy in their settings; there is no interception, and TLS is not opened"
     if words[0] == "dst_lookup":
+        if words[1:2] == ["on"] and len(words) > 2:
+            return "behind on stand children-max=N, with N from 1 to 1024, and queue-size=M, with M up to 1000000, each once at most"
         return "it is on or off, and the first line of the file that has words"
     if words[0] in ("http_access",) and len(words) > 1 and words[1] not in ("allow", "deny"):
         return f"`{words[1]}` is neither allow nor deny"
@@ -355,9 +357,14 @@ KEPT = {
 
 def instead(line: Optional[Line], kind: int) -> str:
     """What to write in the place of a faulty line."""
-    if kind == 2 and line is not None and line.word(0) in NO_EFFECT:
-        return f"take the line out: it changes no verdict ({NO_EFFECT[line.word(0)]})"
-    return KINDS[kind].instead
+    row = TABLE.get(line.word(0)) if kind == 2 and line is not None else None
+    if row is None:
+        return KINDS[kind].instead
+    if row.what is Class.HARMLESS:
+        return f"take the line out: it changes no verdict ({row.text})"
+    if row.what is Class.CONVERTED:
+        return f"what `aclproxyctl check --squid` writes in its place: {row.text}"
+    return f"take the line out if this may be: {row.text}" + (f"; or {row.instead}" if row.instead else "")
 
 
 def of_fault(conf: Conf, number: int, kind: int) -> str:

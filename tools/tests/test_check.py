@@ -2,6 +2,8 @@
 
 import unittest
 
+from aclproxyctl.confs import Conf
+from aclproxyctl.warnings import of_conf
 from aclproxyctl.words import KINDS, NOTICES, STATUSES, plural
 from tests.common import TOP, InFolder, ctl, needs_program
 
@@ -59,6 +61,16 @@ class Check(InFolder):
         self.assertEqual(ended.out.count("  instead: take the line out: it changes no verdict (there is no dialogue with other proxies)\n"), 1)
         self.assertEqual(ended.out.count("  instead: take the line out where it changes no verdict; `aclproxyctl check --squid`"), 1)
         self.assertIn("is refused: 4 faults\n", ended.out)
+
+    def test_directives_of_squid(self) -> None:
+        """What is to be done about a directive that is not known here depends on what it does at Squid's."""
+        ended = ctl("check", self.file("c", ["cache_peer a parent 3128 0", "via off", "refresh_all_ims on"]))
+        for part in (
+            "  instead: take the line out if this may be: requests go to their origins directly, and not by that proxy: what it filtered is not filtered; or let the network",
+            "  instead: what `aclproxyctl check --squid` writes in its place: request_header_access Via deny all",
+            "  instead: take the line out: it changes no verdict (there is no cache)\n",
+        ):
+            self.assertIn(part, ended.out)
 
     def test_at_most_fifty(self) -> None:
         ended = ctl("check", self.file("c", ["nothing"] * 60))
@@ -147,6 +159,28 @@ class Check(InFolder):
         # Who is let in by a list is not kept out by it.
         ended = ctl("check", self.file("d", ["acl names dstdomain .games.example", "http_access allow names"]))
         self.assertNotIn("warning", ended.out)
+
+    def test_quiet(self) -> None:
+        """Of a file that is accepted nothing is said; one that is refused is told as ever."""
+        self.assertEqual(ctl("check", "--quiet", self.file("c", ["http_access deny to_localhost"])).out, "")
+        ended = ctl("check", "-q", self.file("c", ["acl a port x"]))
+        self.assertEqual((ended.status, "`x` is no port" in ended.out), (1, True))
+
+    def test_maxconn(self) -> None:
+        """A process has at most one connection for each worker."""
+        for number, workers, warned in ((1023, 0, False), (1024, 0, True), (64, 64, True), (63, 64, False), (2000, 4096, False)):
+            conf = self.file("c", [f"acl many maxconn {number}", "http_access deny many"])
+            ended = ctl("check", conf, "--workers", str(workers)) if workers else ctl("check", conf)
+            self.assertEqual((ended.status, "so this list never holds" in ended.out), (0, warned), (number, workers))
+
+    def test_lookups(self) -> None:
+        """What the number of look-ups means is said where the file leaves it as it is."""
+        said = "8 names are looked up at once and 16 wait; a request for one name more is denied (QueueFull)"
+        self.assertIn(said, ctl("check", self.file("c", ["dst_lookup on", "http_access deny to_localhost"])).out)
+        self.assertNotIn("QueueFull", ctl("check", self.file("c", ["dst_lookup off", "http_access deny to_localhost"])).out)
+        for options, text in ((" children-max=20", "20 names are looked up at once and 40 wait"), (" queue-size=5", ""), (" children-max=64 queue-size=4096", "")):
+            told = [warned.text for warned in of_conf(Conf(f"dst_lookup on{options}\n".encode()), 0, True)]
+            self.assertEqual([one.startswith(text) for one in told], [True] if text else [], options)
 
     def test_bad_input(self) -> None:
         self.no_traceback(ctl("check", str(self.folder / "none")), 66, "there is no such file")
