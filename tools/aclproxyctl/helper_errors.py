@@ -1,55 +1,41 @@
-"""What helper programs write to their standard error: `serve` has it written to the end of a file, and from there it goes to the
-system's log, line by line. The journal never has any of it.
+"""What helper programs write to their standard error: `serve` appends it to a file, and from there it goes to the system's log,
+line by line. The journal never has any of it.
 """
 
-import os
+import socket
 import syslog
+import time
 from pathlib import Path
 from typing import Callable
 
-# The variable by which `serve` is told the file.
+from aclproxyctl.appended import Appended
+
+# The variable that names the file to `serve`.
 VARIABLE = "ACLPROXY_HELPER_ERRORS"
-# A longer line is cut into several.
-LONGEST = 8192
-# The file begins anew behind so many bytes, once all of them were read.
-MOST = 1024 * 1024
+SYSTEM_LOG = "/dev/log"
+NAME = "aclproxy-helper"
 
 
-def to_system_log(line: str) -> None:
-    syslog.openlog("aclproxy-helper", 0, syslog.LOG_DAEMON)
-    syslog.syslog(syslog.LOG_WARNING, line)
+class SystemLog:
+    """The system's log. A line that it does not take at once is not written, so that nobody waits for it."""
+
+    def __init__(self, address: str = SYSTEM_LOG) -> None:
+        self.address = address
+
+    def __call__(self, line: str) -> bool:
+        moment = time.strftime("%b %e %H:%M:%S")
+        text = f"<{syslog.LOG_DAEMON | syslog.LOG_WARNING}>{moment} {NAME}: {line}".encode("utf-8", "backslashreplace")
+        try:
+            with socket.socket(socket.AF_UNIX, socket.SOCK_DGRAM | socket.SOCK_CLOEXEC | socket.SOCK_NONBLOCK) as to:
+                to.sendto(text, self.address)
+            return True
+        except BlockingIOError:
+            return False
+        except OSError:
+            # There is no such log.
+            return True
 
 
-class HelperErrors:
-    """The file of a run, for its owner alone, and how far it was read."""
-
-    def __init__(self, path: Path, log: Callable[[str], None] = to_system_log) -> None:
-        self.path = path
-        self.log = log
-        self.file = os.open(path, os.O_RDWR | os.O_CREAT | os.O_APPEND | os.O_CLOEXEC, 0o600)
-        self.place = 0
-        self.rest = b""
-
-    def forward(self) -> None:
-        """Logs the lines that came since."""
-        while piece := os.pread(self.file, 65536, self.place):
-            self.place += len(piece)
-            *lines, self.rest = (self.rest + piece).split(b"\n")
-            while len(self.rest) > LONGEST:
-                lines.append(self.rest[:LONGEST])
-                self.rest = self.rest[LONGEST:]
-            for line in lines:
-                for at in range(0, max(1, len(line)), LONGEST):
-                    self.log(line[at : at + LONGEST].decode("utf-8", "backslashreplace").replace("\0", "\\0"))
-        if self.place >= MOST and os.fstat(self.file).st_size == self.place:
-            os.ftruncate(self.file, 0)
-            self.place = 0
-
-    def close(self) -> None:
-        """Logs what is left, whole lines or not; the file goes."""
-        self.forward()
-        if self.rest:
-            self.log(self.rest.decode("utf-8", "backslashreplace").replace("\0", "\\0"))
-            self.rest = b""
-        os.close(self.file)
-        self.path.unlink(missing_ok=True)
+def helper_errors(path: Path, log: Callable[[str], object] = SystemLog()) -> Appended:
+    """The file of a run to which its helpers' standard error is appended."""
+    return Appended(path, log, "helpers")

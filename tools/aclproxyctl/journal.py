@@ -1,17 +1,18 @@
 """Journals: pieces of a run in their order, lines, entries, and the requests in them. Memory is that of what is open."""
 
-import gzip
 import os
 import re
 import time
 from dataclasses import dataclass, field
+from datetime import datetime, timedelta, timezone
 from pathlib import Path
 from typing import BinaryIO, Callable, Iterator, NamedTuple, Optional
 
 from aclproxyctl.errors import CUT, MISSING, NO_RUN, VERSION, UserError, of_system
+from aclproxyctl.packed import open_plain_or_packed
 
-# A piece may be packed once it is whole.
-PIECE = re.compile(r"journal\.([0-9]+)(\.gz)?")
+# A piece may be compressed once it is whole.
+PIECE = re.compile(r"journal\.([0-9]+)(\.gz|\.zst)?")
 KEPT_CONF = "squid.conf"
 # A line of a journal has at most so many bytes before its LF.
 GREATEST_LINE = 4_194_344
@@ -58,7 +59,7 @@ def pieces_of(run: Path) -> list[Path]:
         for name in sorted(os.listdir(run)):
             match = PIECE.fullmatch(name)
             if match:
-                # Of a piece and its packed form, which stand side by side while it is packed, the first counts.
+                # Of a piece and its compressed form, which stand side by side while it is compressed, the first counts.
                 found.setdefault(int(match.group(1)), run / name)
     except OSError as fault:
         raise of_system(fault, str(run)) from None
@@ -79,7 +80,7 @@ def runs_of(folder: Path) -> list[Path]:
     if pieces_of(folder):
         return [folder]
     try:
-        inner = sorted(entry for entry in folder.iterdir() if entry.is_dir())
+        inner = sorted(entry for entry in folder.iterdir() if entry.is_dir() and not entry.name.startswith("."))
         return [entry for entry in inner if pieces_of(entry)]
     except OSError as fault:
         raise of_system(fault, str(folder)) from None
@@ -98,18 +99,25 @@ def runs_at(named: str) -> list[Path]:
     return runs
 
 
-def open_piece(path: Path) -> BinaryIO:
+def started(run: Path) -> Optional[int]:
+    """When a run was started, by the name that `run` gave to it, in milliseconds."""
     try:
-        return gzip.open(path) if path.suffix == ".gz" else open(path, "rb")  # type: ignore[return-value]
-    except OSError as fault:
-        raise of_system(fault, str(path)) from None
+        at = datetime.strptime(run.name, "%Y%m%dT%H%M%S.%fZ").replace(tzinfo=timezone.utc)
+        return (at - datetime.fromtimestamp(0, timezone.utc)) // timedelta(milliseconds=1)
+    except ValueError:
+        return None
+
+
+def open_piece(path: Path) -> BinaryIO:
+    return open_plain_or_packed(path)
 
 
 @dataclass
 class Tail:
-    """What is read after the last whole line of a journal."""
+    """What is read after the last whole line of a journal, and how many bytes were read in all."""
 
     cut: bytes = b""
+    bytes: int = 0
 
 
 def lines_of_files(paths: list[Path], tail: Tail) -> Iterator[bytes]:
@@ -118,9 +126,13 @@ def lines_of_files(paths: list[Path], tail: Tail) -> Iterator[bytes]:
     for path in paths:
         with open_piece(path) as file:
             while True:
-                block = file.read(BLOCK)
+                try:
+                    block = file.read(BLOCK)
+                except EOFError:
+                    raise UserError(CUT, f"{path}: it is compressed, and cut off") from None
                 if not block:
                     break
+                tail.bytes += len(block)
                 *lines, rest = (rest + block).split(b"\n")
                 yield from lines
                 if len(rest) > GREATEST_LINE:
@@ -129,7 +141,7 @@ def lines_of_files(paths: list[Path], tail: Tail) -> Iterator[bytes]:
 
 
 def lines_following(
-    runs: Callable[[], list[Path]], stop: Callable[[], bool] = lambda: False, pause: float = 0.2
+    runs: Callable[[], list[Path]], stop: Callable[[], bool] = lambda: False, pause: float = 0.2, files: Callable[[Path], list[Path]] = pieces_of
 ) -> Iterator[tuple[Path, Optional[bytes]]]:
     """The lines of the last run and of those that follow it, for as long as they come. None stands where nothing came for a moment."""
     run: Optional[Path] = None
@@ -141,11 +153,11 @@ def lines_following(
             time.sleep(pause)
             continue
         run = later[-1] if run is None else later[0]
-        yield from lines_of_run(run, runs, stop, pause)
+        yield from lines_of_run(run, runs, stop, pause, files)
 
 
 def lines_of_run(
-    run: Path, runs: Callable[[], list[Path]], stop: Callable[[], bool], pause: float
+    run: Path, runs: Callable[[], list[Path]], stop: Callable[[], bool], pause: float, files: Callable[[Path], list[Path]] = pieces_of
 ) -> Iterator[tuple[Path, Optional[bytes]]]:
     """The lines of a run as they come, up to where it has no more and a later run has begun."""
     place = 0
@@ -154,7 +166,7 @@ def lines_of_run(
     file: Optional[BinaryIO] = None
     try:
         while not stop():
-            pieces = pieces_of(run)
+            pieces = files(run)
             if file is None and place < len(pieces):
                 file = open_piece(pieces[place])
             line = file.readline() if file is not None else b""
@@ -164,10 +176,8 @@ def lines_of_run(
                     yield (run, rest[:-1])
                     rest = b""
                 continue
-            if file is not None and place + 1 < len(pieces_of(run)):
-                more = file.read(1)
-                if more:
-                    file.seek(-1, os.SEEK_CUR)
+            if file is not None and place + 1 < len(files(run)):
+                if file.peek(1):  # type: ignore[attr-defined]
                     continue
                 file.close()
                 file = None

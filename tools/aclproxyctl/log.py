@@ -4,12 +4,14 @@ import functools
 import heapq
 import ipaddress
 import re
+import sys
 import time
-from dataclasses import dataclass
-from datetime import datetime, timedelta, timezone
+from dataclasses import dataclass, field
+from datetime import datetime, timedelta
 from pathlib import Path
 from typing import Iterator, Optional, TextIO, Union
 
+from aclproxyctl.access import TUNNEL, Access, Odd, access_files, accesses, host_of, is_access_log, is_host, parse
 from aclproxyctl.confs import Conf, read
 from aclproxyctl.errors import DONE, MISSING, USAGE, UserError
 from aclproxyctl.journal import (
@@ -22,12 +24,18 @@ from aclproxyctl.journal import (
     cut_error,
     lines_following,
     lines_of_files,
+    lines_of_run,
     runs_at,
     runs_of,
     shown,
+    started,
     unescape,
     whole_pieces,
 )
+
+# An access log that is followed may be ahead of its journal by so many of these pauses, in seconds.
+JOURNAL_PAUSE = 0.1
+MOST_PAUSES = 10
 
 Network = Union[ipaddress.IPv4Network, ipaddress.IPv6Network]
 
@@ -39,11 +47,33 @@ class Choice:
     denied: bool = False
     client: Optional[Network] = None
     since: Optional[int] = None
+    failed: bool = False
+    # In milliseconds.
+    slow: Optional[int] = None
+    host: Optional[str] = None
+
+    @property
+    def needs_access_log(self) -> bool:
+        """Whether a journal, which has decisions alone, cannot answer it."""
+        return self.failed or self.slow is not None
+
+    def has_access(self, access: Access) -> bool:
+        """The same of a line of an access log. How long a tunnel is open says nothing of how slow it is."""
+        return not (
+            (self.denied and not access.denied)
+            or (self.failed and not access.failed)
+            or (self.slow is not None and (access.elapsed < self.slow or access.code.startswith(TUNNEL)))
+            or (self.since is not None and access.moment < self.since)
+            or (self.host is not None and not is_host(access.host, self.host))
+            or (self.client is not None and not is_in(access.client, self.client))
+        )
 
     def has(self, request: Request) -> bool:
         if self.denied and not request.denied:
             return False
         if self.since is not None and request.taken < self.since:
+            return False
+        if self.host is not None and not is_host(host_of(shown(request.target)), self.host):
             return False
         if self.client is not None:
             return is_in(request.client, self.client)
@@ -99,17 +129,17 @@ class Rules:
 
 
 def line_of(request: Request) -> str:
-    """A request in Squid's native format: what a journal has not is `-`."""
+    """A request in Squid's native format. What a journal has not is 000, 0 or `-`, as Squid writes it, so that tools read it."""
     target, method = shown(request.target), shown(request.method)
     if request.denied:
         result, way, kind = "TCP_DENIED/403", "HIER_NONE/-", "text/plain"
     elif request.dropped:
-        result, way, kind = "NONE_ABORTED/-", "HIER_NONE/-", "-"
+        result, way, kind = "NONE_ABORTED/000", "HIER_NONE/-", "-"
     else:
-        result, way, kind = ("TCP_TUNNEL/-" if method == "CONNECT" else "TCP_MISS/-"), "HIER_DIRECT/-", "-"
+        result, way, kind = ("TCP_TUNNEL/000" if method == "CONNECT" else "TCP_MISS/000"), "HIER_DIRECT/-", "-"
     spent = request.taken - request.asked
     return (
-        f"{request.taken // 1000}.{request.taken % 1000:03} {spent:6} {request.client} {result} - {method} {target} - {way} {kind}"
+        f"{request.taken // 1000}.{request.taken % 1000:03} {spent:6} {request.client} {result} 0 {method} {target} - {way} {kind}"
     )
 
 
@@ -151,20 +181,51 @@ def text_of(request: Request, rules: Optional[Rules]) -> str:
 
 @dataclass
 class Source:
-    """A journal: what it is called, its pieces, and the configuration of its start, where that is known."""
+    """A journal: what it is called, its pieces, the configuration of its start, where that is known, and its access log."""
 
     name: str
     pieces: list[Path]
     first: Optional[bytes]
+    access: list[Path] = field(default_factory=list)
 
 
-def started(run: Path) -> Optional[int]:
-    """When a run was started, by the name that `run` gave to it, in milliseconds."""
-    try:
-        at = datetime.strptime(run.name, "%Y%m%dT%H%M%S.%fZ").replace(tzinfo=timezone.utc)
-        return (at - datetime.fromtimestamp(0, timezone.utc)) // timedelta(milliseconds=1)
-    except ValueError:
-        return None
+class Decisions:
+    """What decided each check of a journal, which is read as far as the checks that are asked for."""
+
+    def __init__(self, name: str, lines: Iterator[bytes], first: Optional[bytes]) -> None:
+        self.reader = Reader(name, frozenset(("take", "reconfigure")))
+        self.lines = lines
+        self.rules = Rules(first)
+        # Those that were taken, and whose requests have not ended.
+        self.taken: dict[str, Request] = {}
+
+    def text(self, check: str) -> str:
+        """The rule that decided a check, or what else did; `-` where the journal does not have it."""
+        pauses = 0
+        while check not in self.taken:
+            line = next(self.lines, None)
+            if line == b"":
+                pauses += 1
+            if line is None or pauses > MOST_PAUSES:
+                return "-"
+            if line == b"":
+                continue
+            entry = self.reader.entry(line)
+            if entry is None:
+                continue
+            if entry.event[0] == "reconfigure":
+                self.rules.add(int(entry.answer[1]), unescape(entry.event[1]))
+            else:
+                self.taken[entry.event[1]] = Request(0, "", "", "", epoch=int(entry.answer[1]), outcome=entry.answer[2:])
+        return with_rule(self.taken.pop(check), self.rules)
+
+
+def text_of_access(access: Access, decisions: Optional[Decisions]) -> str:
+    """A line of an access log, with what decided where that is asked for."""
+    if decisions is None:
+        return access.text + "\n"
+    check = access.fields.get("check", "")
+    return f"{access.text} {decisions.text(check) if check else 'unjudged'}\n"
 
 
 def since_then(runs: list[Path], since: Optional[int]) -> list[Path]:
@@ -183,9 +244,9 @@ def sources_of(named: str, conf: Optional[str], since: Optional[int]) -> list[So
     path = Path(named)
     if path.is_dir():
         runs = since_then(runs_at(named), since)
-        return [Source(str(run), whole_pieces(run), given if given is not None else kept_conf(run)) for run in runs]
+        return [Source(str(run), whole_pieces(run), given if given is not None else kept_conf(run), access_files(run)) for run in runs]
     if path.exists():
-        return [Source(named, [path], given)]
+        return [Source(named, [], given, [path]) if path.is_file() and is_access_log(path) else Source(named, [path], given)]
     raise UserError(MISSING, f"{named}: there is no such file or folder")
 
 
@@ -196,21 +257,58 @@ def chosen(source: Source, choice: Choice, rules: Optional[Rules], tail: Tail) -
             yield request
 
 
+def chosen_accesses(source: Source, choice: Choice, odd: Odd) -> Iterator[Access]:
+    """The lines of an access log that are chosen."""
+    for access in accesses(source.access, odd):
+        if choice.has_access(access):
+            yield access
+
+
+def without_access_log(sources: list[Source], choice: Choice) -> None:
+    """Says which journals cannot answer what is asked; an error where none can."""
+    missing = [source for source in sources if not source.access]
+    if choice.needs_access_log and missing:
+        said = f"{missing[0].name}: it has no access log, and a journal does not have what came of a request"
+        if len(missing) == len(sources):
+            raise UserError(MISSING, said)
+        tell(f"{said}; so for {len(missing)} of {len(sources)} runs")
+
+
+def tell(text: str) -> None:
+    print(f"aclproxyctl: {text}", file=sys.stderr)
+
+
+def tell_odd(odd: Odd) -> None:
+    if odd.count:
+        tell(f"{odd.count:,} lines are none of an access log, the first in {odd.first}")
+
+
 def lines_of(sources: list[Source], choice: Choice, rule: bool, cuts: list[UserError]) -> Iterator[tuple[int, str]]:
     """The lines of journals that follow one another, each with its moment; where one is cut, its error is put to the others."""
+    odd = Odd()
     for source in sources:
         tail = Tail()
+        if source.access:
+            decisions = Decisions(source.name, lines_of_files(source.pieces, tail), source.first) if rule else None
+            for access in chosen_accesses(source, choice, odd):
+                yield access.moment, text_of_access(access, decisions)
+            continue
+        if choice.needs_access_log:
+            continue
         rules = Rules(source.first) if rule else None
         for request in chosen(source, choice, rules, tail):
             yield request.taken, text_of(request, rules)
         if tail.cut:
             cuts.append(cut_error(source.name, tail.cut))
+    tell_odd(odd)
 
 
 def log(out: TextIO, named: list[str], choice: Choice, rule: bool, conf: Optional[str]) -> int:
     """The command without --follow: several journals, as of a site's processes, are merged by their moments."""
     cuts: list[UserError] = []
-    journals = [lines_of(sources, choice, rule, cuts) for sources in [sources_of(it, conf, choice.since) for it in named]]
+    found = [sources_of(it, conf, choice.since) for it in named]
+    without_access_log([source for sources in found for source in sources], choice)
+    journals = [lines_of(sources, choice, rule, cuts) for sources in found]
     for _, line in heapq.merge(*journals, key=lambda it: it[0]):
         out.write(line)
     if cuts:
@@ -228,8 +326,12 @@ def follow(out: TextIO, names: list[str], choice: Choice, rule: bool, conf: Opti
     path = Path(named)
     if not path.exists():
         raise UserError(MISSING, f"{named}: there is no such file or folder")
+    has_access = access_files(runs_at(named)[-1]) if path.is_dir() else is_access_log(path)
+    if has_access:
+        return follow_accesses(out, path, choice, rule, given)
+    if choice.needs_access_log:
+        raise UserError(MISSING, f"{named}: it has no access log, and a journal does not have what came of a request")
     if path.is_dir():
-        runs_at(named)
         lines = lines_following(lambda: runs_of(path))
     else:
         lines = lines_of_growing(path)
@@ -251,6 +353,31 @@ def follow(out: TextIO, names: list[str], choice: Choice, rule: bool, conf: Opti
         if request is not None and choice.has(request):
             out.write(text_of(request, rules))
     return DONE
+
+
+def follow_accesses(out: TextIO, path: Path, choice: Choice, rule: bool, given: Optional[bytes]) -> int:
+    """The same over an access log."""
+    last: Optional[Path] = None
+    decisions: Optional[Decisions] = None
+    lines = lines_following(lambda: runs_of(path), files=access_files) if path.is_dir() else lines_of_growing(path)
+    for run, line in lines:
+        if line is None:
+            out.flush()
+            continue
+        if run != last:
+            last = run
+            if rule and path.is_dir():
+                decisions = Decisions(str(run), lines_so_far(run), given if given is not None else kept_conf(run))
+        access = parse(line.decode("latin-1"))
+        if access is not None and choice.has_access(access):
+            out.write(text_of_access(access, decisions))
+    return DONE
+
+
+def lines_so_far(run: Path) -> Iterator[bytes]:
+    """The lines of a run that grows, and an empty one, which is no entry, where nothing came for a moment."""
+    for _, line in lines_of_run(run, lambda: [], lambda: False, JOURNAL_PAUSE):
+        yield line or b""
 
 
 def lines_of_growing(path: Path) -> Iterator[tuple[Path, Optional[bytes]]]:

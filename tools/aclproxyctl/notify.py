@@ -12,7 +12,8 @@ class Notifier:
         # Helpers are not to speak for the service.
         name = os.environ.pop("NOTIFY_SOCKET", "")
         self.address = "\0" + name[1:] if name.startswith("@") else name
-        self.watched = os.environ.pop("WATCHDOG_USEC", "") != ""
+        watched, process = os.environ.pop("WATCHDOG_USEC", ""), os.environ.pop("WATCHDOG_PID", "")
+        self.watched = watched != "" and process in ("", str(os.getpid()))
 
     def tell(self, *lines: str) -> None:
         if not self.address:
@@ -32,8 +33,9 @@ class Notifier:
     def reloading(self) -> None:
         self.tell("RELOADING=1", f"MONOTONIC_USEC={time.clock_gettime_ns(time.CLOCK_MONOTONIC) // 1000}", "STATUS=reading the configuration again")
 
-    def stopping(self) -> None:
-        self.tell("STOPPING=1", "STATUS=ending; open connections go on to their end")
+    def stopping(self, why: str = "ending; open connections go on to their end") -> None:
+        """It ends; the text stays as the service's status, on one line."""
+        self.tell("STOPPING=1", "STATUS=" + " ".join(why.split()))
 
     def alive(self) -> None:
         if self.watched:

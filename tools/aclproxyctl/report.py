@@ -6,12 +6,14 @@ import subprocess
 from typing import TextIO
 
 from aclproxyctl import words
+from aclproxyctl.access import Odd
+from aclproxyctl.disk import size_in_words
 from aclproxyctl.errors import DONE, NEEDS, NO, SYSTEM, UserError, of_system
 from aclproxyctl.journal import Tail
-from aclproxyctl.log import Choice, chosen, line_of, sources_of
+from aclproxyctl.log import Choice, chosen, chosen_accesses, line_of, sources_of, tell_odd, without_access_log
 
 # Squid's native format, which goaccess does not know by a name that fits. An allowed request has no status in a journal, and
-# is one of status `-`.
+# is one of status 000.
 FORMAT = [
     "--log-format=%x.%^ %~%L %h %^/%s %b %m %U %^",
     "--date-format=%s",
@@ -30,21 +32,33 @@ FORMAT = [
 def report(out: TextIO, named: str, choice: Choice, to: str) -> int:
     """The command."""
     sources = sources_of(named, None, choice.since)
+    without_access_log(sources, choice)
     goaccess = shutil.which("goaccess")
     if goaccess is None:
         raise UserError(NEEDS, "the program goaccess is not found; Debian has it in the package goaccess: apt-get install goaccess")
     if not os.path.isdir(os.path.dirname(os.path.abspath(to))):
         raise UserError(SYSTEM, f"{to}: its folder is not there")
     try:
-        process = subprocess.Popen([goaccess, "-", *FORMAT, "-o", to], stdin=subprocess.PIPE, stdout=subprocess.PIPE, stderr=subprocess.STDOUT, text=True)
+        process = subprocess.Popen(
+            [goaccess, "-", *FORMAT, "-o", to], stdin=subprocess.PIPE, stdout=subprocess.PIPE, stderr=subprocess.STDOUT, text=True,
+            # The page has all targets: it is for its owner alone.
+            umask=0o077,
+        )
     except OSError as fault:
         raise of_system(fault, goaccess) from None
     assert process.stdin is not None and process.stdout is not None
-    count = denied = 0
+    count = denied = failed = size = 0
+    odd = Odd()
     try:
         try:
             for source in sources:
-                for request in chosen(source, choice, None, Tail()):
+                for access in chosen_accesses(source, choice, odd) if source.access else ():
+                    process.stdin.write(access.text + "\n")
+                    count += 1
+                    denied += access.denied
+                    failed += access.failed
+                    size += access.bytes
+                for request in chosen(source, choice, None, Tail()) if not source.access and not choice.needs_access_log else ():
                     process.stdin.write(line_of(request) + "\n")
                     count += 1
                     denied += request.denied
@@ -61,5 +75,7 @@ def report(out: TextIO, named: str, choice: Choice, to: str) -> int:
             process.kill()
             process.wait()
         process.stdout.close()
-    out.write(f"{to}: {words.plural(count, 'request')}, {denied:,} of them denied\n")
+    tell_odd(odd)
+    more = f", {failed:,} failed; {size_in_words(size)} went to clients" if any(source.access for source in sources) else ""
+    out.write(f"{to}: {words.plural(count, 'request')}, {denied:,} of them denied{more}\n")
     return DONE

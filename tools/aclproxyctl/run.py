@@ -1,241 +1,48 @@
-"""run: the supervisor of a service. It starts `serve`, hands it orders for signals, and keeps its journal.
-
-The journal goes from `serve` through a pipe into `split`, without the supervisor between them: `split --lines` writes what it
-reads at once, so an entry is in a file as soon as it left the pipe, and if the supervisor is killed, `serve` reads the end of
-its orders and ends, and `split` writes what is left.
-"""
+"""run: the supervisor of a service. It begins runs, one after the other, and turns signals into orders for `serve`."""
 
 import os
-import re
 import selectors
-import shutil
 import signal
-import subprocess
-import sys
 import time
-from dataclasses import dataclass
-from datetime import datetime, timezone
 from pathlib import Path
 from types import FrameType
 from typing import Optional
 
 from aclproxyctl import words
+from aclproxyctl.appended import Left
+from aclproxyctl.clock import ClockWatch
 from aclproxyctl.confs import Conf, read
-from aclproxyctl.errors import NEEDS, UserError, of_system
-from aclproxyctl.helper_errors import VARIABLE, HelperErrors
-from aclproxyctl.journal import KEPT_CONF, pieces_of
+from aclproxyctl.disk import Disk
+from aclproxyctl.errors import UserError, of_system
+from aclproxyctl.metrics import Collector, Server, Told
 from aclproxyctl.notify import Notifier
+from aclproxyctl.retention import Housekeeper
+from aclproxyctl.running import ACCESS_BYTES, CURRENT_CONF, PIECE_LINES, RUN_BYTES, Options, Run, is_anybody_connected, say, write_new
 from aclproxyctl.warnings import zone_offset
 
-# `verify` reads 1 GiB at most. What is written while the last connections of a run come to their end needs room too.
-RUN_BYTES = 768 * 1024 * 1024
-PIECE_LINES = 1_000_000
-# How long a server that was sent a signal has until it is killed.
-KILLED_AFTER = 5.0
-CURRENT_CONF = "current.conf"
-HELPER_ERRORS = "helpers.err"
-# States of a connection in the system's table: it is open, or open on this side.
-OPEN_STATES = ("01", "08")
+# So often a file is emptied to which more is written than is read.
+FLOOD_PAUSE = 0.1
+LEAST_RUN_BYTES = 1024 * 1024
 
-
-@dataclass(frozen=True)
-class Options:
-    """What the service is started with."""
-
-    program: str
-    conf: str
-    journal: str
-    port: Optional[int]
-    workers: Optional[int]
-    offset: Optional[int]
-    from_zone: bool
-    grace: float
-    run_bytes: int = RUN_BYTES
-    piece_lines: int = PIECE_LINES
-
-
-def say(text: str) -> None:
-    """A line of the service's own log."""
-    try:
-        print(f"aclproxyctl: {text}", file=sys.stderr, flush=True)
-    except OSError:
-        pass
-
-
-def write_new(path: Path, text: bytes) -> None:
-    """A file for its owner alone, which comes to be whole or not at all."""
-    beside = path.with_name(path.name + ".new")
-    descriptor = os.open(beside, os.O_WRONLY | os.O_CREAT | os.O_TRUNC, 0o600)
-    with open(descriptor, "wb") as file:
-        file.write(text)
-        file.flush()
-        os.fsync(file.fileno())
-    os.replace(beside, path)
-
-
-def new_folder(journal: Path) -> Path:
-    """A folder of its own for a run, named by the moment of its start, so that names have the order of runs."""
-    journal.mkdir(mode=0o700, parents=True, exist_ok=True)
-    while True:
-        now = datetime.now(timezone.utc)
-        folder = journal / (now.strftime("%Y%m%dT%H%M%S.") + f"{now.microsecond // 1000:03}Z")
-        try:
-            folder.mkdir(mode=0o700)
-            return folder
-        except FileExistsError:
-            time.sleep(0.001)
-
-
-def is_anybody_connected(port: int) -> bool:
-    """Whether a connection to this port is open; where the system does not tell, somebody may be."""
-    told = False
-    for table in ("/proc/self/net/tcp", "/proc/self/net/tcp6"):
-        try:
-            with open(table, encoding="ascii") as file:
-                told = True
-                for line in file:
-                    words_of = line.split(None, 4)
-                    if words_of[3] in OPEN_STATES and words_of[1].endswith(f":{port:04X}"):
-                        return True
-        except (OSError, IndexError):
-            continue
-    return not told
-
-
-def refusal_in(piece: Path) -> str:
-    """Why the port was not opened, where `serve` says that in place of a journal, or nothing."""
-    try:
-        with open(piece, "rb") as text:
-            line = text.readline(4096)
-    except OSError:
-        return ""
-    found = re.fullmatch(rb"aclproxy: port [0-9]+: (.+)\n", line)
-    return found[1].decode(errors="replace") if found else ""
-
-
-class Run:
-    """One run: a `serve`, the `split` that writes its journal, and its folder."""
-
-    def __init__(self, options: Options, source: bytes) -> None:
-        self.folder = new_folder(Path(options.journal))
-        self.source = source
-        self.offset = zone_offset() if options.from_zone else options.offset
-        write_new(self.folder / KEPT_CONF, source)
-        write_new(self.folder / CURRENT_CONF, source)
-        command = [options.program, "serve", str(self.folder / CURRENT_CONF)]
-        for name, value in (("--port", options.port), ("--workers", options.workers), ("--utc-offset", self.offset)):
-            if value is not None:
-                command += [name, str(value)]
-        split = shutil.which("split")
-        if split is None:
-            raise UserError(NEEDS, "the program split is not found; Debian has it in the package coreutils")
-        self.errors = HelperErrors(self.folder / HELPER_ERRORS)
-        # Each has a session of its own: Ctrl-C in a terminal is for the supervisor alone.
-        self.split = subprocess.Popen(
-            [split, f"--lines={options.piece_lines}", "--numeric-suffixes", "--suffix-length=6", "-", str(self.folder / "journal.")],
-            stdin=subprocess.PIPE, stdout=subprocess.DEVNULL, start_new_session=True, umask=0o077,
-        )
-        assert self.split.stdin is not None
-        try:
-            self.serve = subprocess.Popen(
-                command, stdin=subprocess.PIPE, stdout=subprocess.PIPE, stderr=self.split.stdin, start_new_session=True,
-                env={**os.environ, VARIABLE: str(self.errors.path.absolute())},
-            )
-        except OSError as fault:
-            self.split.kill()
-            raise UserError(NEEDS, f"{options.program} cannot be run: {fault.strerror}") from None
-        finally:
-            # From here on `serve` alone has this end of the pipe.
-            self.split.stdin.close()
-        assert self.serve.stdin is not None and self.serve.stdout is not None
-        self.orders = self.serve.stdin.fileno()
-        self.output = self.serve.stdout.fileno()
-        os.set_blocking(self.orders, False)
-        os.set_blocking(self.output, False)
-        self.rest = b""
-        self.last = ""
-        self.listening = False
-        self.refusal = ""
-        self.port = 0
-        self.ended = False
-        self.asked_at: Optional[float] = None
-        self.killed_at: Optional[float] = None
-
-    def order(self, line: bytes) -> None:
-        """Hands `serve` an order. One that is gone has none; a pipe that is full holds more than enough."""
-        try:
-            os.write(self.orders, line + b"\n")
-        except OSError:
-            pass
-
-    def lines(self) -> list[str]:
-        """The lines that `serve` wrote since; at its output's end `ended` is set."""
-        try:
-            read = os.read(self.output, 65536)
-        except BlockingIOError:
-            return []
-        if not read:
-            self.ended = True
-            return []
-        *lines, self.rest = (self.rest + read).split(b"\n")
-        said = [line.decode("latin-1") for line in lines]
-        if said:
-            self.last = said[-1]
-        return said
-
-    def bytes(self) -> int:
-        """How many bytes its journal has."""
-        total = 0
-        for piece in pieces_of(self.folder):
-            try:
-                total += piece.stat().st_size
-            except OSError:
-                pass
-        return total
-
-    def shut_down(self) -> None:
-        if self.asked_at is None:
-            self.asked_at = time.monotonic()
-            self.order(b"shutdown")
-
-    def kill(self) -> None:
-        """Ends it at once; a second time, by the signal that none can withstand."""
-        now = time.monotonic()
-        if self.killed_at is None:
-            self.killed_at = now
-            self.serve.send_signal(signal.SIGTERM)
-        elif now - self.killed_at >= KILLED_AFTER:
-            self.serve.kill()
-
-    def close(self) -> int:
-        """Waits for both processes, and has the status of `serve`."""
-        status = self.serve.wait()
-        assert self.serve.stdin is not None and self.serve.stdout is not None
-        self.serve.stdin.close()
-        self.serve.stdout.close()
-        self.errors.close()
-        try:
-            self.split.wait(KILLED_AFTER)
-        except subprocess.TimeoutExpired:
-            say(f"split has not ended, since somebody holds the pipe of the journal; it goes on in {self.folder}")
-            return status
-        if self.split.returncode != 0:
-            say(f"split ended with status {self.split.returncode}: the journal in {self.folder} is not whole")
-        if not self.listening:
-            pieces = pieces_of(self.folder)
-            self.refusal = refusal_in(pieces[0]) if pieces else ""
-            if not pieces or self.refusal:
-                # It has not begun: there is nothing to keep.
-                shutil.rmtree(self.folder, ignore_errors=True)
-        return status
+__all__ = ["ACCESS_BYTES", "PIECE_LINES", "RUN_BYTES", "Options", "Run", "Supervisor", "run", "say"]
 
 
 class Supervisor:
     """Begins runs, one after the other, and does what signals ask for."""
 
-    def __init__(self, options: Options) -> None:
+    def __init__(self, options: Options, notifier: Optional[Notifier] = None) -> None:
         self.options = options
-        self.notifier = Notifier()
+        self.notifier = notifier or Notifier()
+        # How the server ended, in words.
+        self.why = ""
+        self.watch = ClockWatch()
+        self.disk = Disk(Path(options.journal))
+        self.housekeeper = Housekeeper(Path(options.journal), options.limits, options.packing, say)
+        self.left = Left(say)
+        self.told = Told()
+        self.collector = Collector(Path(options.journal), self.told) if options.metrics is not None else None
+        self.dropped_before = 0
+        self.run_bytes = options.run_bytes
         self.selector = selectors.DefaultSelector()
         self.caught: list[int] = []
         self.wake_out, self.wake_in = os.pipe()
@@ -244,6 +51,8 @@ class Supervisor:
         self.source = read(options.conf)
         self.reload_wanted = False
         self.reading: Optional[bytes] = None
+        # Whether that is the current configuration once more, so that a further file of the access log begins.
+        self.reopening = False
         self.stopping = False
         self.renewing = False
 
@@ -256,16 +65,26 @@ class Supervisor:
         for number in (signal.SIGHUP, signal.SIGTERM, signal.SIGINT):
             signal.signal(number, self.catch)
         self.selector.register(self.wake_out, selectors.EVENT_READ)
-        while True:
-            status = self.one_run()
-            if not self.renewing or status != 0 or self.stopping:
-                break
-            self.renewing = False
+        server = None
+        if self.collector is not None and self.options.metrics is not None:
+            server = Server(self.options.metrics, self.collector)
+        try:
+            while True:
+                status = self.one_run()
+                if not self.renewing or status != 0 or self.stopping:
+                    break
+                self.renewing = False
+        finally:
+            self.left.close()
+            self.housekeeper.stop()
+            if server is not None:
+                server.stop()
         if self.stopping is False:
-            self.notifier.stopping()
+            self.notifier.stopping(self.why)
         return status
 
     def one_run(self) -> int:
+        self.watch.begin()
         try:
             run = Run(self.options, self.source)
         except OSError as fault:
@@ -273,16 +92,28 @@ class Supervisor:
         if self.reading is not None:
             # The run before ended without an answer to it.
             self.reading = None
-            self.reload_wanted = True
-        say(f"the journal is in {run.folder}")
+            self.reload_wanted = self.reload_wanted or not self.reopening
+            self.reopening = False
+        say(f"the journal is in {run.folder}; {self.options.limits.said(run.folder)}")
+        if self.collector is not None:
+            self.collector.watch(run.folder)
+        self.housekeeper.poke()
+        most = self.options.limits.most_bytes(run.folder)
+        if most is not None:
+            # The current run is never removed, so it may have half of what is kept.
+            self.run_bytes = min(self.options.run_bytes, max(most // 2, LEAST_RUN_BYTES))
         self.selector.register(run.output, selectors.EVENT_READ)
         tick = time.monotonic() + 1
         while not run.ended:
-            self.selector.select(max(0.0, tick - time.monotonic()))
+            flooded = run.is_flooded() or any(file.flooded for file in self.left.files)
+            self.selector.select(min(FLOOD_PAUSE if flooded else 1.0, max(0.0, tick - time.monotonic())))
             self.drain()
             for line in run.lines():
                 self.heard(run, line)
             self.signals(run)
+            if flooded:
+                run.follow()
+                self.left.look()
             if time.monotonic() >= tick:
                 tick = time.monotonic() + 1
                 self.each_second(run)
@@ -312,6 +143,20 @@ class Supervisor:
             self.reload_wanted = False
             self.reload(run)
 
+    def turn_access_log(self, run: Run) -> None:
+        """Has a further file of the access log begin where it is due: the configuration that is current is read once more."""
+        if run.access is None or not run.listening or self.reading is not None or run.asked_at is not None:
+            return
+        try:
+            run.access.turn()
+            if not self.reload_wanted and run.access.wants_order():
+                write_new(run.folder / CURRENT_CONF, self.source)
+                self.reading = self.source
+                self.reopening = True
+                run.order(b"reconfigure")
+        except OSError as fault:
+            say(f"no further file of the access log can be begun: {of_system(fault, str(run.folder)).text}")
+
     def reload(self, run: Run) -> None:
         self.notifier.reloading()
         try:
@@ -327,6 +172,7 @@ class Supervisor:
 
     def kept(self, why: str) -> None:
         self.reading = None
+        self.told.refused += 1
         say(f"the configuration stays as it was: {why}")
         self.notifier.ready("the configuration stays as it was")
 
@@ -334,11 +180,22 @@ class Supervisor:
         """A line of `serve`, in words."""
         said = line.split(" ")
         if said[0] == "listening":
-            run.listening = True
-            run.port = int(said[1])
+            run.listens(int(said[1]))
             say(f"listening at port {said[1]}")
             self.notifier.ready(f"listening at port {said[1]}")
+        elif said[0] == "reconfigured" and self.reopening:
+            self.reopening = False
+            self.reading = None
+            if run.access is not None:
+                run.access.opened()
+            say("a further file of the access log begins")
+        elif said[:2] == ["kept", "old"] and self.reopening:
+            # It is ordered again later. Until then its lines go to the file that was renamed.
+            self.reopening = False
+            self.reading = None
         elif said[0] == "reconfigured":
+            if run.access is not None:
+                run.access.opened()
             if self.reading is not None:
                 self.source = self.reading
                 self.reading = None
@@ -358,8 +215,14 @@ class Supervisor:
 
     def each_second(self, run: Run) -> None:
         run.order(b"")
-        run.errors.forward()
+        run.follow()
+        self.left.look()
+        self.told.dropped = self.dropped_before + run.errors.dropped_in_all
+        self.turn_access_log(run)
         self.notifier.alive()
+        news = self.disk.news()
+        if news is not None:
+            say(news)
         now = time.monotonic()
         if run.killed_at is not None or (run.asked_at is not None and now - run.asked_at >= self.options.grace):
             if run.killed_at is None:
@@ -381,21 +244,23 @@ class Supervisor:
     def renewal(self, run: Run) -> Optional[str]:
         """Why a new run is to begin, if one is."""
         size = run.bytes()
-        if size >= self.options.run_bytes:
+        if size >= self.run_bytes:
             return f"the journal has {size:,} bytes"
-        if size >= self.options.run_bytes // 2 and not is_anybody_connected(run.port):
+        if size >= self.run_bytes // 2 and not is_anybody_connected(run.port):
             return f"the journal has {size:,} bytes, and nobody is connected"
         if self.options.from_zone and zone_offset() != run.offset:
             return f"local time is {zone_offset():+d} minutes from UTC now"
-        return None
+        return self.watch.news()
 
     def end(self, run: Run) -> int:
         """What is said of a run's end, and its status."""
-        status = run.close()
+        status = run.close(self.left)
+        self.dropped_before += run.errors.dropped_in_all
         if status < 0:
             if self.renewing and not self.stopping and run.killed_at is not None:
                 return 0
-            say(f"the server was ended by signal {-status}")
+            self.why = f"the server was ended by signal {-status}"
+            say(self.why)
             return 128 - status
         said = run.last.split(" ")
         if said[:2] == ["error", "config"] and len(said) == 4:
@@ -407,11 +272,17 @@ class Supervisor:
                 why += f": {run.refusal}"
         else:
             why = words.STATUSES.get(status, f"its last line is {run.last!r}")
+        self.why = f"the server has ended with status {status}: {why}"
         if not self.renewing or self.stopping or status != 0:
-            say(f"the server has ended with status {status}: {why}")
+            say(self.why)
         return status
 
 
 def run(options: Options) -> int:
     """The command."""
-    return Supervisor(options).serve()
+    notifier = Notifier()
+    try:
+        return Supervisor(options, notifier).serve()
+    except UserError as fault:
+        notifier.stopping(fault.text)
+        raise

@@ -8,6 +8,8 @@ from typing import Iterator, Optional, TextIO
 from aclproxyctl import words
 from aclproxyctl.errors import DONE, MISSING, VERSION, UserError
 from aclproxyctl.journal import Reader, Tail, lines_of_files, runs_at, shown, whole_pieces
+from aclproxyctl.service import service_of
+from aclproxyctl.sockets import clients_of
 
 
 @dataclass
@@ -92,7 +94,23 @@ def state_of(name: str, lines: Iterator[bytes]) -> State:
     return state
 
 
-def tell(out: TextIO, name: str, state: State, size: int, pieces: int, cut: int) -> None:
+def rows_of_service(run: Path) -> tuple[tuple[str, str], ...]:
+    """What is known of a server that serves now, beside its journal."""
+    service = service_of(run)
+    if service is None:
+        return ()
+    clients = clients_of(service.port, service.process)
+    if clients is None:
+        return (("workers", f"{service.workers:,}"),)
+    waiting = clients.waiting(service.workers)
+    wait = f"{waiting:,} wait for a worker, of these {clients.queued:,} in the accept queue" if waiting else "none waits for a worker"
+    return (
+        ("workers", f"{service.workers:,}, of these {clients.workers_in_use(service.workers):,} in use"),
+        ("clients", f"{clients.connected:,} connected at port {service.port}; {wait}"),
+    )
+
+
+def tell(out: TextIO, name: str, state: State, size: int, pieces: int, cut: int, service: tuple[tuple[str, str], ...]) -> None:
     waiting = sum(state.waiting.values())
     by_class: dict[str, int] = {}
     for word in state.helpers.values():
@@ -113,7 +131,7 @@ def tell(out: TextIO, name: str, state: State, size: int, pieces: int, cut: int)
     )
     if state.entries == 0:
         rows = rows[:2]
-    for label, text in rows:
+    for label, text in (*rows, *service):
         out.write(f"{label + ':':<15}{text}\n")
 
 
@@ -129,5 +147,5 @@ def status(out: TextIO, named: str) -> int:
         raise UserError(MISSING, f"{named}: there is no such file or folder")
     tail = Tail()
     state = state_of(str(run), lines_of_files(pieces, tail))
-    tell(out, str(run), state, sum(piece.stat().st_size for piece in pieces), len(pieces), len(tail.cut))
+    tell(out, str(run), state, tail.bytes, len(pieces), len(tail.cut), rows_of_service(run))
     return DONE

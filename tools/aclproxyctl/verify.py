@@ -3,6 +3,7 @@
 import os
 import subprocess
 import threading
+from dataclasses import dataclass, field
 from pathlib import Path
 from typing import BinaryIO, Optional, TextIO
 
@@ -16,7 +17,15 @@ from aclproxyctl.journal import KEPT_CONF, open_piece, runs_at, whole_pieces
 GREATEST = 1_073_741_824
 
 
-def feed(pieces: list[Path], to: BinaryIO, faults: list[UserError]) -> None:
+@dataclass
+class Fed:
+    """How much of a journal was handed to the program, and what was wrong with its files."""
+
+    bytes: int = 0
+    faults: list[UserError] = field(default_factory=list)
+
+
+def feed(pieces: list[Path], to: BinaryIO, fed: Fed) -> None:
     """Writes the pieces in their order. A reader that has seen enough is no fault."""
     try:
         for piece in pieces:
@@ -26,12 +35,13 @@ def feed(pieces: list[Path], to: BinaryIO, faults: list[UserError]) -> None:
                     if not block:
                         break
                     to.write(block)
+                    fed.bytes += len(block)
     except UserError as fault:
-        faults.append(fault)
+        fed.faults.append(fault)
     except BrokenPipeError:
         pass
     except (OSError, EOFError) as fault:
-        faults.append(of_system(fault, str(pieces[0].parent)) if isinstance(fault, OSError) else UserError(CUT, f"{piece}: it is packed, and cut off"))
+        fed.faults.append(of_system(fault, str(pieces[0].parent)) if isinstance(fault, OSError) else UserError(CUT, f"{piece}: it is compressed, and cut off"))
     finally:
         try:
             to.close()
@@ -39,8 +49,8 @@ def feed(pieces: list[Path], to: BinaryIO, faults: list[UserError]) -> None:
             pass
 
 
-def ask_over(program: str, conf: str, pieces: list[Path]) -> tuple[int, list[str]]:
-    """What the program's `verify` writes of these pieces, joined, and its status."""
+def ask_over(program: str, conf: str, pieces: list[Path]) -> tuple[int, list[str], int]:
+    """What the program's `verify` writes of these pieces, joined, its status, and how many bytes they have."""
     try:
         process = subprocess.Popen(
             [program, "verify", conf, "/dev/stdin"], stdin=subprocess.PIPE, stdout=subprocess.PIPE, stderr=subprocess.DEVNULL
@@ -48,16 +58,16 @@ def ask_over(program: str, conf: str, pieces: list[Path]) -> tuple[int, list[str
     except OSError as fault:
         raise UserError(INTERNAL, f"{program} cannot be run: {fault.strerror}") from None
     assert process.stdin is not None and process.stdout is not None
-    faults: list[UserError] = []
-    feeder = threading.Thread(target=feed, args=(pieces, process.stdin, faults))
+    fed = Fed()
+    feeder = threading.Thread(target=feed, args=(pieces, process.stdin, fed))
     feeder.start()
     said = process.stdout.read().decode("latin-1")
     status = process.wait()
     feeder.join()
     process.stdout.close()
-    if faults:
-        raise faults[0]
-    return status, said.splitlines()
+    if fed.faults:
+        raise fed.faults[0]
+    return status, said.splitlines(), fed.bytes
 
 
 def first_line(pieces: list[Path]) -> bytes:
@@ -73,7 +83,7 @@ def last_is_cut(pieces: list[Path]) -> bool:
     """Whether the joined text ends without LF."""
     for piece in reversed(pieces):
         with open_piece(piece) as file:
-            if piece.suffix == ".gz":
+            if piece.suffix in (".gz", ".zst"):
                 last = b""
                 while True:
                     block = file.read(1 << 20)
@@ -115,11 +125,10 @@ def shown(line: bytes, most: int = 300) -> str:
 
 def verify_one(out: TextIO, program: str, name: str, conf: str, pieces: list[Path]) -> int:
     """One journal: says what was found, and has the status for it."""
-    size = sum(piece.stat().st_size for piece in pieces)
     first = first_line(pieces)
     if first and not first.startswith(b"journal 2\n") and not first.split(b" ")[1:2] == [b"begin"]:
         raise UserError(VERSION, f"{name}: this is no journal of version 1 or 2: it begins with {shown(first, 60)!r}")
-    status, said = ask_over(program, conf, pieces)
+    status, said, size = ask_over(program, conf, pieces)
     last = said[-1].split(" ") if said else []
     joined = f"{words.plural(size, 'byte')} in {words.plural(len(pieces), 'piece')}"
     if status == 0 and last[:1] == ["verified"]:

@@ -42,11 +42,11 @@ JOURNAL = """journal 2
 """
 CONF = "acl a dstdomain a.example\nhttp_access deny a\nhttp_access  allow   y # a comment\n"
 LINES = [
-    "1764377001.012      2 10.1.2.3 TCP_DENIED/403 - GET http://a.example/x?y%20z - HIER_NONE/- text/plain",
-    "1764377003.030   2000 2001:db8::1 TCP_MISS/- - HEAD http://b.example/ - HIER_DIRECT/- -",
-    "1764377004.000      0 10.1.2.3 TCP_TUNNEL/- - CONNECT c.example:443 - HIER_DIRECT/- -",
-    "1764377004.502      2 2001:db8::1 TCP_DENIED/403 - GET http://d.example/ - HIER_NONE/- text/plain",
-    "1764377005.007      7 2001:db8::1 NONE_ABORTED/- - GET http://e.example/ - HIER_NONE/- -",
+    "1764377001.012      2 10.1.2.3 TCP_DENIED/403 0 GET http://a.example/x?y%20z - HIER_NONE/- text/plain",
+    "1764377003.030   2000 2001:db8::1 TCP_MISS/000 0 HEAD http://b.example/ - HIER_DIRECT/- -",
+    "1764377004.000      0 10.1.2.3 TCP_TUNNEL/000 0 CONNECT c.example:443 - HIER_DIRECT/- -",
+    "1764377004.502      2 2001:db8::1 TCP_DENIED/403 0 GET http://d.example/ - HIER_NONE/- text/plain",
+    "1764377005.007      7 2001:db8::1 NONE_ABORTED/000 0 GET http://e.example/ - HIER_NONE/- -",
 ]
 
 
@@ -81,8 +81,8 @@ class Log(InFolder):
 7 1 1764377006000 step 2 => done
 8 1 1764377006000 take 2 => epoch 1 denied default
 """
-        between = "1764377002.001      1 10.9.9.9 TCP_DENIED/403 - GET http://z.example/ - HIER_NONE/- text/plain"
-        last = "1764377006.000      0 10.9.9.9 TCP_DENIED/403 - GET http://z.example/ - HIER_NONE/- text/plain"
+        between = "1764377002.001      1 10.9.9.9 TCP_DENIED/403 0 GET http://z.example/ - HIER_NONE/- text/plain"
+        last = "1764377006.000      0 10.9.9.9 TCP_DENIED/403 0 GET http://z.example/ - HIER_NONE/- text/plain"
         one, two = self.file("one", JOURNAL), self.file("two", other)
         for names in ((one, two), (two, one)):
             ended = ctl("log", *names)

@@ -11,7 +11,7 @@ from aclproxyctl.words import FORMS, TYPES
 from tests.common import TOP
 
 MAN = TOP / "docs" / "man"
-PAGES = [MAN / "aclproxy.1", MAN / "aclproxyctl.1", MAN / "aclproxy.conf.5"]
+PAGES = [MAN / "aclproxy.1", MAN / "aclproxy-domains.1", MAN / "aclproxyctl.1", MAN / "aclproxy.conf.5"]
 
 
 class Pages(unittest.TestCase):

@@ -19,6 +19,7 @@ class Report(InFolder):
         page = self.folder / "report.html"
         ended = ctl("report", self.file("j", JOURNAL), "-o", str(page))
         self.assertEqual((ended.status, ended.out), (0, f"{page}: 5 requests, 2 of them denied\n"), ended.err)
+        self.assertEqual(page.stat().st_mode & 0o777, 0o600)
         # The page holds what it shows as JSON.
         found = re.search(r"var json_data=(\{.*?\});?</script>|var json_data=(\{.*\})", page.read_text())
         assert found is not None

@@ -14,6 +14,7 @@ import threading
 import time
 from pathlib import Path
 from typing import Callable, Iterator, Optional
+from unittest import mock
 
 from aclproxyctl.notify import Notifier
 from tests.common import LAUNCHER, PROGRAM, InFolder, ctl, needs_program
@@ -103,7 +104,7 @@ class Service:
         self.errors = open(folder / "errors", "wb")
         self.folder = folder
         self.process = subprocess.Popen(
-            [sys.executable, str(LAUNCHER), "run", conf, "--port", str(self.port), "--journal", str(self.journal), *options],
+            [sys.executable, str(LAUNCHER), "run", conf, "--port", str(self.port), "--journal", str(self.journal), "--workers", "8", *options],
             stdin=subprocess.DEVNULL, stdout=subprocess.DEVNULL, stderr=self.errors,
             env={**os.environ, "NOTIFY_SOCKET": name, "TZ": "UTC"},
         )
@@ -252,7 +253,7 @@ class Run(InFolder):
         for line, (method, target) in zip(logged.out.splitlines(), asked):
             fields = line.split()
             self.assertEqual((fields[2], fields[5], fields[6]), ("127.0.0.1", method, target))
-            verdict = {"TCP_DENIED/403": "denied", "TCP_MISS/-": "allowed"}[fields[3]]
+            verdict = {"TCP_DENIED/403": "denied", "TCP_MISS/000": "allowed"}[fields[3]]
             rule = re.search(r" rule ([0-9]+): ", line)
             assert rule is not None
             got.append(f"{verdict} rule {rule.group(1)}")
@@ -378,6 +379,8 @@ class Run(InFolder):
             # A start that came to nothing leaves nothing.
             self.assertEqual(service.runs(), [])
             self.assertIn("the server has ended with status 2: " + str(self.folder / "conf") + ":1: `80x` is no port: acl web port 80x\n", service.said())
+            # systemd keeps why it did not start.
+            self.assertEqual(service.told("STOPPING")["STATUS"], f"the server has ended with status 2: {self.folder}/conf:1: `80x` is no port: acl web port 80x")
         with socket.socket() as taken:
             taken.bind(("0.0.0.0", 0))
             taken.listen()
@@ -389,9 +392,53 @@ class Run(InFolder):
         with Service(self.folder, str(self.folder / "none")) as service:
             self.assertEqual(service.ended(), 66)
             self.assertIn("none: there is no such file\n", service.said())
+            self.assertEqual(service.told("STOPPING")["STATUS"], f"{self.folder}/none: there is no such file")
         with Service(self.folder, self.file("conf", ["http_access deny all"]), "--journal", str(self.folder / "conf")) as service:
             self.assertNotEqual(service.ended(), 0)
             self.assertNotIn("Traceback", service.said())
+
+    def test_journal_that_is_not_stated(self) -> None:
+        """Where the journals are is said, since nobody named it."""
+        conf = self.file("conf", ["acl web port 80x"])
+        told: list[tuple[dict[str, str], str]] = [
+            ({"STATE_DIRECTORY": str(self.folder / "state")}, f"{self.folder}/state/journal, by STATE_DIRECTORY"),
+            ({}, f"{self.folder}/journal, a folder of the current one"),
+        ]
+        for env, wanted in told:
+            ended = subprocess.run([sys.executable, str(LAUNCHER), "run", conf, "--workers", "8"], cwd=self.folder, env={**os.environ, **env}, capture_output=True, text=True)
+            self.assertEqual(ended.returncode, 2)
+            self.assertIn(f"aclproxyctl: --journal is not stated: the journals are in {wanted}\n", ended.stderr)
+
+    def test_messages_of_the_server(self) -> None:
+        """Lines that the server appends to the file that it is given are told one by one; here another process appends them."""
+        conf = self.file("conf", ["http_access deny all"])
+        with Service(self.folder, conf) as service:
+            service.told("READY")
+            server = Path(f"/proc/{service.child(Path(PROGRAM).name[:15])}/environ").read_bytes().split(b"\0")
+            (named,) = [value.partition(b"=")[2].decode() for value in server if value.startswith(b"ACLPROXY_MESSAGES=")]
+            self.assertEqual(Path(named), service.runs()[0] / "messages")
+            with open(named, "ab") as messages:
+                messages.write(b"all 8 workers are in use\nand a second line\n")
+            wait_for(lambda: "second line" in service.said())
+            self.assertIn("aclproxyctl: all 8 workers are in use\naclproxyctl: and a second line\n", service.said())
+            with open(named, "ab") as messages:
+                messages.write(b"the last words")
+            service.process.send_signal(signal.SIGTERM)
+            self.assertEqual(service.ended(), 0)
+            self.assertIn("aclproxyctl: the last words\n", service.said())
+            self.assertFalse(Path(named).exists())
+
+    def test_watchdog(self) -> None:
+        """It is fed each second where systemd asks this process for it."""
+        conf = self.file("conf", ["http_access deny all"])
+        with mock.patch.dict(os.environ, {"WATCHDOG_USEC": "30000000"}), Service(self.folder, conf) as service:
+            service.told("READY")
+            for _ in range(2):
+                self.assertEqual(service.told("WATCHDOG"), {"WATCHDOG": "1"})
+            environ = Path(f"/proc/{service.child(Path(PROGRAM).name[:15])}/environ").read_bytes()
+            self.assertNotIn(b"WATCHDOG_USEC", environ)
+        with mock.patch.dict(os.environ, {"WATCHDOG_USEC": "30000000", "WATCHDOG_PID": "1"}):
+            self.assertFalse(Notifier().watched)
 
     def test_helpers_do_not_speak_for_the_service(self) -> None:
         os.environ["NOTIFY_SOCKET"] = "@x"
