@@ -44,8 +44,8 @@ pub struct RealChildIn<R: Wait, P: OpenProcess<Stdin = ChildStdin>> {
     ghost capped: { faults ≤ 2 ^ 63 - 1 },
 }
 
-/// The half of a process that is read. At its end, and where it is let go, nobody hears the process any more: it is stopped, and
-/// waited for, so that nothing of it is left.
+/// The half of a process that is read. Its end comes where the process writes what nobody asked for, too. At its end, and where it is let go,
+/// nobody hears the process any more: it is stopped, and waited for, so that nothing of it is left.
 pub struct RealChildOut<R: Wait + Clock, P: OpenProcess<Stdin = ChildStdin>> {
     rt: R,
     process: Arc<ChildProcess<P>>,
@@ -139,15 +139,22 @@ impl<R: Wait + Clock, P: OpenProcess<Stdin = ChildStdin> + Drop> RealChildOut<R,
         goes_on
     }
 
-    // It wrote these bytes. It is looked around where a tick has passed.
-    fn hear(&mut self, bytes: &[u8])
+    // It wrote something. It is looked around where a tick has passed.
+    fn heard(&mut self)
         ensures kept { self.new.faults ≡ self.old.faults }
     {
-        self.process.hear(&self.rt, &mut self.front, bytes);
         let now = self.rt.monotonic().unwrap_or(Duration::ZERO);
         if now.saturating_sub(self.looked) >= self.times.tick {
             self.looks(now);
         }
+    }
+
+    // It wrote nothing for a tick. Whether it goes on.
+    fn idles(&mut self) -> bool
+        ensures kept { self.new.faults ≡ self.old.faults }
+    {
+        let now = self.rt.monotonic().unwrap_or(Duration::ZERO);
+        self.looks(now)
     }
 }
 
@@ -162,18 +169,18 @@ impl<R: Wait + Clock, P: OpenProcess<Stdin = ChildStdin> + Drop> Source for Real
 
     fn read(&mut self, into: &mut [u8]) -> Result<usize, Failed> {
         for _ in 0..u64::MAX {
-            match self.process.read(into) {
+            if !self.process.wait(&self.rt, self.times.tick) {
+                if !self.idles() {
+                    return Ok(0);
+                }
+                continue;
+            }
+            match self.process.read(&self.rt, &mut self.front, into) {
                 Ok(count) => {
-                    self.hear(&into[..count]);
+                    self.heard();
                     return Ok(count);
                 }
-                Err(e) if e.kind() == ErrorKind::Interrupted => {}
-                Err(e) if is_tick(e.kind()) => {
-                    let now = self.rt.monotonic().unwrap_or(Duration::ZERO);
-                    if !self.looks(now) {
-                        return Ok(0);
-                    }
-                }
+                Err(e) if e.kind() == ErrorKind::Interrupted || is_tick(e.kind()) => {}
                 Err(_) => break,
             }
         }

@@ -67,6 +67,11 @@ impl Owed {
         }
     }
 
+    /// Whether there is none.
+    pub(crate) fn is_empty(&self) -> bool {
+        self.questions.is_empty()
+    }
+
     /// A question is asked at this time. None where there is no memory.
     pub(crate) fn ask(&mut self, front: LineNumber, time: Duration) -> Option<()> {
         let number = front.number;

@@ -2,11 +2,15 @@
 //!
 //! What it reads comes through a pipe that takes no more than it has room for: what it had none for is kept here, and handed on as the
 //! process reads on. What it writes comes through a socket, since a read of a socket can be told how long to wait.
+//!
+//! What it writes while it owes no answer was asked for by nobody. It must not be taken for the answer to the next question: none of it is
+//! handed on, the process is asked nothing more, and its output counts as ended. A read and a question see this under one lock.
 ghost use Rattle.std.specs.Prelude.{◌≤◌, IfSome, length};
 ghost use Rattle.std.specs.Io.{ReadsAtMost};
 
 use crate::again::TRIES;
 use crate::owed::{LineNumber, Owed};
+use crate::ready::{self, PollFor};
 use std::alloc::Global;
 use std::io::{self, ErrorKind, Read, Write};
 use std::net::Shutdown;
@@ -35,6 +39,8 @@ struct ChildState<P: OpenProcess<Stdin = ChildStdin>> {
     child: Option<Child<P>>,
     stdin: Option<ChildStdin>,
     stopped: bool,
+    // Whether it wrote something that nobody had asked for.
+    strayed: bool,
     // What the pipe had no room for so far.
     unwritten: Vec<u8>,
     owed: Owed,
@@ -55,6 +61,13 @@ fn put(stdin: &mut ChildStdin, bytes: &[u8]) -> Option<usize>
     None
 }
 
+// Whether a read of this socket, within so long, would find bytes or the end.
+fn is_readable(said: &UnixStream, most: Duration) -> bool {
+    let mut one = [ready::entry(said, PollFor::Read)];
+    ready::wait(&mut one, Some(most));
+    ready::is_reported(&one[0])
+}
+
 impl<P: OpenProcess<Stdin = ChildStdin>> ChildState<P> {
     // Hands on what the pipe had no room for before.
     fn hand_on(&mut self) {
@@ -68,8 +81,14 @@ impl<P: OpenProcess<Stdin = ChildStdin>> ChildState<P> {
         }
     }
 
-    // Asks a question.
-    fn ask(&mut self, line: &[u8], time: Duration) -> Option<()> {
+    // Asks a question, where it has written nothing to this socket that nobody asked for.
+    fn ask(&mut self, said: &UnixStream, line: &[u8], time: Duration) -> Option<()> {
+        if self.owed.is_empty() && is_readable(said, Duration::ZERO) {
+            self.strayed = true;
+        }
+        if self.strayed {
+            return None;
+        }
         let stdin = self.stdin.as_mut()?;
         self.owed.ask(LineNumber::of(line), time)?;
         let count = if self.unwritten.is_empty() {
@@ -80,9 +99,15 @@ impl<P: OpenProcess<Stdin = ChildStdin>> ChildState<P> {
         self.unwritten.extend_from_slice(&line[count..]).ok()
     }
 
-    // Bytes of answers, behind this front of a line.
-    fn hear(&mut self, front: &mut LineNumber, bytes: &[u8]) {
-        for &byte in bytes {
+    // Bytes of answers, behind this front of a line. How many of them were asked for.
+    fn hear(&mut self, front: &mut LineNumber, bytes: &[u8]) -> usize
+        ensures { result ≤ length bytes.now }
+    {
+        for (place, &byte) in bytes.iter().enumerate() {
+            if self.owed.is_empty() {
+                self.strayed = true;
+                return place;
+            }
             if byte == b'\n' {
                 self.owed.answer(*front);
                 *front = LineNumber::new();
@@ -90,6 +115,7 @@ impl<P: OpenProcess<Stdin = ChildStdin>> ChildState<P> {
                 front.take(byte);
             }
         }
+        bytes.len()
     }
 }
 
@@ -102,6 +128,7 @@ impl<P: OpenProcess<Stdin = ChildStdin> + Drop> ChildProcess<P> {
                 child: None,
                 stdin: None,
                 stopped: false,
+                strayed: false,
                 unwritten: Vec::new(alloc),
                 owed: Owed::new(alloc),
             }),
@@ -115,24 +142,36 @@ impl<P: OpenProcess<Stdin = ChildStdin> + Drop> ChildProcess<P> {
         state.stdin = stdin;
     }
 
-    /// Reads what it wrote, and waits for that for a tick.
-    pub(crate) fn read(&self, into: &mut [u8]) -> io::Result<usize>
+    /// Waits until a read would find something, for so long at the most. Whether it would.
+    pub(crate) fn wait<R: Wait>(&self, rt: &R, most: Duration) -> bool {
+        let strayed = self.state.lock(rt).strayed;
+        strayed || is_readable(&self.said, most)
+    }
+
+    /// Reads what it wrote behind this front of a line, as far as it was asked for: nothing more comes behind that. A read for which `wait`
+    /// found something waits for nothing.
+    pub(crate) fn read<R: Wait>(
+        &self,
+        rt: &R,
+        front: &mut LineNumber,
+        into: &mut [u8],
+    ) -> io::Result<usize>
         ensures { ReadsAtMost result into.new }
     {
+        let mut state = self.state.lock(rt);
+        if state.strayed {
+            return Ok(0);
+        }
         let mut said: &UnixStream = &self.said;
-        said.read(into)
+        let count = said.read(into)?;
+        let asked_for = state.hear(front, &into[..count]);
+        state.hand_on();
+        Ok(asked_for)
     }
 
     /// Asks a question at this time, and waits for nothing. None where it can't be asked.
     pub(crate) fn ask<R: Wait>(&self, rt: &R, line: &[u8], time: Duration) -> Option<()> {
-        self.state.lock(rt).ask(line, time)
-    }
-
-    /// It wrote these bytes, behind this front of a line.
-    pub(crate) fn hear<R: Wait>(&self, rt: &R, front: &mut LineNumber, bytes: &[u8]) {
-        let mut state = self.state.lock(rt);
-        state.hear(front, bytes);
-        state.hand_on();
+        self.state.lock(rt).ask(&self.said, line, time)
     }
 
     /// Whether it goes on: it was not stopped, and owes no answer longer than this.

@@ -90,3 +90,36 @@ fn a_program_that_owes_an_answer_is_stopped(rt: HostRuntime) {
         assert!(rt; write_all(&mut to, b"1 a\n").is_err());
     }
 }
+
+#[test]
+fn what_nobody_asked_for_ends_a_program(rt: HostRuntime) {
+    let alloc = rt.alloc();
+    let mut spawner = RealSpawner::new(rt, short());
+    // Two lines in one piece, for one question; a line and a piece of one; and a line before the first question. Each with the bytes that were
+    // asked for.
+    let scripts: [(&[u8], &[u8]); 3] = [
+        (
+            b"read -r q; printf 'OK\\nOK\\n'; exec cat > /dev/null",
+            b"OK\n",
+        ),
+        (
+            b"read -r q; printf 'ERR\\nO'; exec cat > /dev/null",
+            b"ERR\n",
+        ),
+        (b"printf 'OK\\n'; exec cat > /dev/null", b""),
+    ];
+    for (script, asked_for) in scripts {
+        let command = words(alloc, &[b"sh", b"-c", script]).expect(&rt, "the words");
+        let (mut said, mut to) = spawner
+            .start(alloc, command.as_slice())
+            .expect(&rt, "a program");
+        let mut chunk = [0u8; 16];
+        if !asked_for.is_empty() {
+            assert!(rt; write_all(&mut to, b"a\n").is_ok());
+            let count = said.read(&mut chunk).expect(&rt, "a read");
+            assert!(rt; chunk[..count] == *asked_for);
+        }
+        assert!(rt; said.read(&mut chunk).expect(&rt, "a read") == 0);
+        assert!(rt; write_all(&mut to, b"b\n").is_err());
+    }
+}
