@@ -117,7 +117,7 @@ fn what_nobody_asked_for_ends_a_program(rt: HostRuntime) {
         if !asked_for.is_empty() {
             assert!(rt; write_all(&mut to, b"a\n").is_ok());
             let count = said.read(&mut chunk).expect(&rt, "a read");
-            assert!(rt; chunk[..count] == *asked_for);
+            assert!(rt; &chunk[..count] == asked_for);
         }
         assert!(rt; said.read(&mut chunk).expect(&rt, "a read") == 0);
         assert!(rt; write_all(&mut to, b"b\n").is_err());
