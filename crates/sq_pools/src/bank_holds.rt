@@ -1,8 +1,8 @@
 //! The holds of the pools' lock. Nothing is proved here of what lies under it but what its type keeps; each function
-//! takes the lock, makes the one call of its name with the arguments that it was handed, and lets go; `grant` makes
-//! `grant_in_turn`, and `grant_tag` `grant_tag_in_turn`, and both give 0 where that made no call.
+//! takes the lock, makes the one call of its name with the arguments that it was handed, and lets go.
 ghost use Rattle.std.specs.Prelude.{◌≡◌, ◌+◌, ◌<◌, ◌≤◌, true};
 ghost use Rattle.sq_pools.specs.Basins.{has_pool, has_tag_pool};
+ghost use Rattle.sq_pools.specs.Turning.{given_of};
 
 use crate::bank::Bank;
 use crate::pools::ChooseFault;
@@ -47,7 +47,42 @@ pub fn choose_tag<R: Wait, G: Ledger>(
         .choose_tag(alloc, epoch, config, pool, tag, now)
 }
 
-/// Grants some bytes, which the share counts, to a seat whose turn it is, and else none.
+/// Grants some of the bytes that are wanted, which the share counts, to a seat whose turn it is; else no call of the pools
+/// is made.
+pub fn grant_in_turn<R: Wait, G: Ledger>(
+    rt: &R,
+    bank: &Mutex<Bank<G>>,
+    seat: &Seat,
+    wanted: u64,
+    now: Moment,
+    share: &mut Share<G>,
+) -> Option<u64>
+    requires { 0 < share.old.parts }
+    ensures within { given_of result ≤ wanted }
+    ensures amount { share.new.amount ≡ share.old.amount + given_of result }
+    ensures parts { share.new.parts ≡ share.old.parts }
+{
+    bank.lock(rt).grant_in_turn(seat, wanted, now, share)
+}
+
+/// The same to a seat for a tag.
+pub fn grant_tag_in_turn<R: Wait, G: Ledger>(
+    rt: &R,
+    bank: &Mutex<Bank<G>>,
+    seat: &TagSeat,
+    wanted: u64,
+    now: Moment,
+    share: &mut Share<G>,
+) -> Option<u64>
+    requires { 0 < share.old.parts }
+    ensures within { given_of result ≤ wanted }
+    ensures amount { share.new.amount ≡ share.old.amount + given_of result }
+    ensures parts { share.new.parts ≡ share.old.parts }
+{
+    bank.lock(rt).grant_tag_in_turn(seat, wanted, now, share)
+}
+
+/// Grants bytes to a seat, which the share counts, whoever's turn it is.
 pub fn grant<R: Wait, G: Ledger>(
     rt: &R,
     bank: &Mutex<Bank<G>>,
@@ -61,11 +96,10 @@ pub fn grant<R: Wait, G: Ledger>(
     ensures amount { share.new.amount ≡ share.old.amount + result }
     ensures parts { share.new.parts ≡ share.old.parts }
 {
-    let gave = bank.lock(rt).grant_in_turn(seat, wanted, now, share);
-    gave.unwrap_or(0)
+    bank.lock(rt).grant(seat, wanted, now, share)
 }
 
-/// The same for a seat for a tag.
+/// The same to a seat for a tag.
 pub fn grant_tag<R: Wait, G: Ledger>(
     rt: &R,
     bank: &Mutex<Bank<G>>,
@@ -79,8 +113,7 @@ pub fn grant_tag<R: Wait, G: Ledger>(
     ensures amount { share.new.amount ≡ share.old.amount + result }
     ensures parts { share.new.parts ≡ share.old.parts }
 {
-    let gave = bank.lock(rt).grant_tag_in_turn(seat, wanted, now, share);
-    gave.unwrap_or(0)
+    bank.lock(rt).grant_tag(seat, wanted, now, share)
 }
 
 /// The first moment behind this one at which the buckets of a seat gain, a second behind it at most.

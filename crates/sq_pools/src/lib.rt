@@ -10,9 +10,9 @@
 //! `Bank` is the delay pools of both kinds, as they lie behind their lock, with the book of their grants: what they granted
 //! together is what the book counts, or 2^127 where that is less. Its methods say what a call does to the pools and to the
 //! share that is handed in. `grant_in_turn` grants a seat some of the bytes that it wants, or makes no call where it is not
-//! the seat's turn. The lines that take the lock stand in `bank_holds`: `choose`, `grant`, `gains_at`, `leave` and
-//! `renew`, and `choose_tag`, `grant_tag`, `tag_gains_at`, `leave_tag` and `renew_tags` for buckets by tags, each a call of
-//! the bank in one hold.
+//! the seat's turn. The lines that take the lock stand in `bank_holds`: `choose`, `grant_in_turn`, `grant`, `gains_at`, `leave`
+//! and `renew`, and `choose_tag`, `grant_tag_in_turn`, `grant_tag`, `tag_gains_at`, `leave_tag` and `renew_tags` for buckets by
+//! tags, each a call of the bank in one hold.
 #![tactic(auto)]
 
 mod bank;
@@ -26,8 +26,8 @@ mod turns;
 
 pub use bank::Bank;
 pub use bank_holds::{
-    choose, choose_tag, gains_at, grant, grant_tag, leave, leave_tag, renew, renew_tags,
-    tag_gains_at,
+    choose, choose_tag, gains_at, grant, grant_in_turn, grant_tag, grant_tag_in_turn, leave,
+    leave_tag, renew, renew_tags, tag_gains_at,
 };
 pub use held_seats::HeldSeat;
 pub use pools::{ChooseFault, Pools};

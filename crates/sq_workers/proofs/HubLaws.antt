@@ -57,3 +57,10 @@ hub_asks a b (Err f) s = ap (λ n. min n count_limit) s
 -- bytes that were granted raised the share of grants
 pub hub_grants : (a b given : ℕ) → b ≡ a + given → min b count_limit ≡ granted_by (min a count_limit) given
 hub_grants a b given e = grind arith
+
+-- where nothing was granted it stays
+pub hub_grants_none : (a : ℕ) → min a count_limit ≡ granted_by (min a count_limit) 0
+hub_grants_none a = grind arith
+
+-- what a grant leaves of the share
+pub ruleset hub_granted = (hub_grants, hub_grants_none)

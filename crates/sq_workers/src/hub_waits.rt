@@ -29,8 +29,8 @@ pub(crate) struct HubWaits {
 // So many pauses of a clock, of 10 milliseconds, come to a second.
 const SECOND: u32 = 100;
 
-// Waits until this moment, a second at most. Pauses that take longer than they should move it by one of them, and not by all.
-fn rest<C: Clock>(clock: &mut C, until: Moment) {
+/// Waits until this moment, a second at most. Pauses that take longer than they should move it by one of them, and not by all.
+pub(crate) fn rest<C: Clock>(clock: &mut C, until: Moment) {
     for _ in 0..SECOND {
         clock.pause();
         if until <= clock.now() {

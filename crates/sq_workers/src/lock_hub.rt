@@ -4,6 +4,7 @@ ghost use Rattle.sq_outside.specs.Causes.{count_limit};
 ghost use Rattle.sq_workers.specs.HubFaults.{hub_fault, hub_gave};
 
 use crate::hub_waits::{HubWaits, put_rewrite};
+use crate::lent_seats::LentSeat;
 use crate::rooms::SessionRooms;
 use crate::tallies::Tally;
 use sq_base::{Addr, CheckNo, ConnNo, EpochNo, QuestionNo, Request, Text};
@@ -32,8 +33,9 @@ pub struct Shares<B: Ledgers> {
 }
 
 /// The engine, the rewriter, if there is one, and the pools behind their locks. Each call that has the name of one of theirs is
-/// one hold, in which it makes that one call, at the moment of its clock, and adds to its shares. It tells how many requests it
-/// made and how many bytes it was granted, each up to 2^63 - 1, and remembers what its next wait and its next pause are for.
+/// one hold, in which it makes that one call, at the moment of its clock, and adds to its shares; a grant makes one more for each
+/// pause in which it waits for the turn of its seat. It tells how many requests it made and how many bytes it was granted, each up
+/// to 2^63 - 1, and remembers what its next wait and its next pause are for.
 pub struct LockHub<'a, R: Wait, D: DeskCalls, B: Ledgers, C: Clock + Drop> {
     rt: &'a R,
     rooms: SessionRooms<'a, D, B>,
@@ -247,10 +249,11 @@ impl<'a, R: Wait, D: DeskCalls, B: Ledgers, C: Clock + Drop> Hub for LockHub<'a,
     }
 
     fn grant(&mut self, seat: &Seat, wanted: u64) -> u64 {
-        let now = self.clock.now();
+        let seat = LentSeat::ByAddress(seat);
+        let clock = &mut self.clock;
         let gains_at = &mut self.waits.gains_at;
         self.granted
-            .grant(self.rt, self.rooms.bank, seat, wanted, now, gains_at)
+            .grant(self.rt, self.rooms.bank, seat, wanted, clock, gains_at)
     }
 
     fn leave(&mut self, seat: Seat) {
@@ -271,10 +274,11 @@ impl<'a, R: Wait, D: DeskCalls, B: Ledgers, C: Clock + Drop> Hub for LockHub<'a,
     }
 
     fn grant_tag(&mut self, seat: &TagSeat, wanted: u64) -> u64 {
-        let now = self.clock.now();
+        let seat = LentSeat::ByTag(seat);
+        let clock = &mut self.clock;
         let gains_at = &mut self.waits.gains_at;
         self.granted
-            .grant_tag(self.rt, self.rooms.bank, seat, wanted, now, gains_at)
+            .grant(self.rt, self.rooms.bank, seat, wanted, clock, gains_at)
     }
 
     fn leave_tag(&mut self, seat: TagSeat) {

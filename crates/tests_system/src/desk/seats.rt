@@ -23,7 +23,9 @@ use std::sync::{Arc, Mutex, Wait};
 /// and 3 gain 10, where a tag's bucket does so from its first seat on. That at 4 holds 150 bytes for all, and 100 for each client.
 /// Who was granted nothing waits. From the next second on others get even parts with it, three seats of one bucket 4, 3 and 3 of 10;
 /// unless it waits at a bucket of its own, as the second seat of the client does at 9.17 s: then the other client gets its 100 at
-/// 10.1 s. Who gives its seat up waits no more.
+/// 10.1 s. Who gives its seat up waits no more. A seat that has had its part while another waits pauses in its call until the
+/// buckets gain, as the first of gold does from 13.302 s on, and then gets its part of the next second. The last call is of one
+/// whose clock stands: after so many pauses it gets what there is.
 pub static SEATS: &str = "2000 choose 1 0 - => 1
 2100 choose 1 2 iron => 1
 2200 choose 1 4 - => 2
@@ -60,8 +62,13 @@ pub static SEATS: &str = "2000 choose 1 0 - => 1
 12302 choose 2 3 gold => 3
 12303 grant 9 => 0
 13301 grant 8 => 5
+13302,14299,14300,14301 grant 8 => 8
 - leave => -
-14301 grant 8 => 15
+14302 grant 8 => 7
+14303 choose 2 3 gold => 4
+14304 grant 9 => 0
+15301 grant 8 => 5
+15302 grant 8 => 5
 ";
 
 /// A client.
