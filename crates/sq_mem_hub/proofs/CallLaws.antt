@@ -1,5 +1,5 @@
 -- Calls of a hub in memory, by those of its engine.
-use Rattle.std.proofs.Common.{◌≡◌, ◌==◌, ℕ, ◌≤◌, List, ◌∷◌, Bool, true, false, if◌then◌else◌, max, Option, Some, None, option_map, Result, Ok, Err, OnErr, IfOk, refl, sym, subst, ap, ◌∙◌, arith}
+use Rattle.std.proofs.Common.{◌≡◌, ◌==◌, ℕ, ◌≤◌, List, ◌∷◌, ◌++◌, append-nil, not, Bool, true, false, if◌then◌else◌, max, Option, Some, None, option_map, Result, Ok, Err, OnErr, IfOk, refl, sym, subst, ap, ◌∙◌, arith}
 use Rattle.std.proofs.lemmas.Option.{none-some}
 use Rattle.sq_base.specs.Requests.{HttpRequest}
 use Rattle.sq_model.specs.CheckRows.{Held, held_at}
@@ -8,7 +8,7 @@ use Rattle.sq_model.specs.declared.stepping.Stepped.TheVariants as stepped
 use Rattle.sq_rules.specs.Configurations.{Configuration}
 use Rattle.sq_machine.specs.Entries.{History, entry_at}
 use Rattle.sq_machine.specs.Machine.{next}
-use Rattle.sq_machine.specs.Next.{gives, refuses}
+use Rattle.sq_machine.specs.Next.{gives, refuse_if, refuses}
 use Rattle.sq_machine.specs.Marking.{marked}
 use Rattle.sq_machine.specs.Marks.{entries}
 use Rattle.sq_machine.specs.Readings.{latest}
@@ -21,10 +21,17 @@ use Rattle.sq_machine.specs.declared.refusals.Refusal.{Refusal}
 use Rattle.sq_machine.specs.declared.refusals.Refusal.TheVariants as refusal
 use Rattle.sq_checks.specs.OpenChecks.{CheckParts, row, rows_of}
 use Rattle.sq_checks.specs.Records.{Judged, judged_of}
+use Rattle.sq_checks.specs.Stages.{came_in, is_done_in, question_in}
+use Rattle.sq_checks.specs.declared.stages.CheckStage.{CheckStage}
+use Rattle.sq_checks.specs.declared.stages.CheckStage.TheVariants as stage
 use Rattle.sq_checks.specs.Tables.{value_at}
+use Rattle.sq_rules.specs.Sights.{unversioned_sight}
+use Rattle.sq_rules.specs.declared.outcomes.Outcome.{Outcome}
+use Rattle.std.specs.Option.{option_to_list}
 use Rattle.sq_rewrite.specs.States.{RewriteState}
 use Rattle.sq_turns.specs.Tellings.{DelayPools}
 use Rattle.sq_model.specs.Answers.{take_answer, take_of_held}
+use Rattle.sq_model.specs.Says.{outcome_in}
 use Rattle.sq_model.specs.Promises.{IsAnswered, StandsFor}
 use Rattle.sq_model.specs.States.{IsSame, State, is_of_pools, machine_moment}
 use Rattle.sq_engine.proofs.TableLaws.{row_at_number}
@@ -35,7 +42,7 @@ use Rattle.sq_engine.specs.EngineViews.{EngineView, state_of}
 use Rattle.sq_engine.specs.Promised.{IsPromised}
 use Rattle.sq_engine.specs.Stepping.{stepped_told}
 use Rattle.sq_engine.specs.Tellings.{IsAlwaysTold}
-use Rattle.sq_turns.specs.Tellings.{AreKept, Asks, BegunCheck, BeginsCheck, HubState, IsCheck, IsNext, IsOfCheck, IsRefused, IsStep, IsTaken, Makes, MakesOn, Takes, asks_for, begun_of, machine_now}
+use Rattle.sq_turns.specs.Tellings.{AreKept, Asks, BegunCheck, BeginsCheck, HubState, IsCheck, IsNext, IsOfCheck, IsOfRow, IsRefused, IsStep, IsTaken, IsTakenOf, Makes, MakesOn, Takes, asks_for, begun_of, machine_now, row_taken}
 use Rattle.sq_turns.specs.declared.hub.HubFault.{HubFault}
 use Rattle.sq_mem_hub.specs.MemHubs.{begun_in, check_of, hub_result, hub_state}
 
@@ -246,6 +253,71 @@ pub taken_by : (v : EngineView) (n : ℕ) (rewriter : Option RewriteState) (pool
 taken_by v n rewriter pools moment (Ok j) told_is rec = taken_from v n j (value_at v.checks n) refl told_is rec
 taken_by v n rewriter pools moment (Err why) told_is rec = tt
 
+-- only a check that is done is taken
+done_taken : (s : State) (n : ℕ) (h : Held) (t : Told) (done : Bool) → h.done ≡ done
+    → take_of_held s n (Some h) ≡ gives t → done ≡ true
+done_taken s n h t true e is = refl
+done_taken s n h t false e is =
+    let same : refuses (refusal.NotDone n) ≡ gives t =
+    subst
+    (λ b. refuse_if (not b) (refusal.NotDone n) (gives (told.Judged h.asked.epoch (outcome_in s h))) ≡ gives t) e is in
+    absurd (cc)
+
+-- its row, by its stage, is that of its record
+abbrev row_at_stage : ℕ → CheckParts → CheckStage → Held
+row_at_stage n k s = record {
+  number = n;
+  asked = record { conn = k.conn; epoch = k.epoch; sight = unversioned_sight k.sight };
+  waits = question_in s;
+  answers = k.answers ++ option_to_list (came_in s);
+  done = is_done_in s;
+  steps = k.steps;
+}
+
+row_done : (n : ℕ) (o : Outcome) (k : CheckParts) (s : CheckStage) → is_done_in s ≡ true
+    → row_at_stage n k s ≡ row_taken k.conn (judged_of n o k)
+row_done n o k stage.Ready e = absurd (cc)
+row_done n o k (stage.Came a) e = absurd (cc)
+row_done n o k (stage.Waits q) e = absurd (cc)
+row_done n o k (stage.Done p) e = ap (λ l. record {
+  number = n;
+  asked = record { conn = k.conn; epoch = k.epoch; sight = unversioned_sight k.sight };
+  waits = None;
+  answers = l;
+  done = true;
+  steps = k.steps;
+}) (append-nil k.answers)
+
+row_is_done : (n : ℕ) (o : Outcome) (k : CheckParts) → is_done_in k.stage ≡ true
+    → row n k ≡ row_taken k.conn (judged_of n o k)
+row_is_done n o k e = row_done n o k k.stage e
+
+row_from : (v : EngineView) (n : ℕ) (j : Judged) (o : Option CheckParts) → value_at v.checks n ≡ o
+    → take_answer (state_of v) n ≡ gives (told.Judged j.epoch j.outcome)
+    → ((k : CheckParts) → value_at v.checks n ≡ Some k → j ≡ judged_of n j.outcome k)
+    → IsTakenOf n j (rows_of v.checks)
+row_from v n j None at told_is rec = absurd
+    (take_none (state_of v) n (held_at n (rows_of v.checks)) _ (row_at_number n v.checks ∙ ap (option_map (row n)) at)
+    told_is)
+row_from v n j (Some k) at told_is rec =
+    let there : held_at n (rows_of v.checks) ≡ Some (row n k) =
+    row_at_number n v.checks ∙ ap (option_map (row n)) at in
+    let done : is_done_in k.stage ≡ true = done_taken (state_of v) n (row n k) _ (is_done_in k.stage) refl
+    (subst (λ x. take_of_held (state_of v) n x ≡ gives (told.Judged j.epoch j.outcome)) there told_is) in (
+      k.conn,
+      there
+          ∙ ap (λ (h : Held). Some h)
+          (row_is_done n j.outcome k done ∙ ap (λ (x : Judged). row_taken k.conn x) (sym (rec k at))),
+    )
+
+pub row_taken_by : (v : EngineView) (n : ℕ) (rewriter : Option RewriteState) (pools : DelayPools) (moment : ℕ)
+    (r : Result Judged Refusal)
+    → IsAlwaysTold (λ j. told.Judged j.epoch j.outcome) (take_answer (state_of v) n) r
+    → IfOk r (λ j. (k : CheckParts) → value_at v.checks n ≡ Some k → j ≡ judged_of n j.outcome k)
+    → IsOfRow n (hub_result r) (hub_state v rewriter pools moment)
+row_taken_by v n rewriter pools moment (Ok j) told_is rec = row_from v n j (value_at v.checks n) refl told_is rec
+row_taken_by v n rewriter pools moment (Err why) told_is rec = tt
+
 -- how a step is told
 pub step_tells : (s : State) (e : ℕ) (a : Stepped) → IsStep a (stepped_told s e a)
 step_tells s e (stepped.Took class) = (_, refl)
@@ -308,4 +380,5 @@ takes_by n x f v w rewriter pools moment is told_is rec promised same kept =
         kept = kept_by v.checks w.checks kept;
       };
       of_check = taken_by v n rewriter pools moment x told_is rec;
+      of_row = row_taken_by v n rewriter pools moment x told_is rec;
     })

@@ -16,7 +16,7 @@ use Rattle.sq_turns.specs.declared.front.Decided.{Decided}
 use Rattle.sq_turns.specs.declared.front.Decided.TheVariants as decided
 use Rattle.sq_turns.specs.Hubs.{decided_of}
 use Rattle.sq_turns.proofs.SpentLaws.{ask_spent, asked_open}
-use Rattle.sq_turns.specs.Judging.{EndsSo, Finishes, FitsDecided, IsAttempt, IsOfGoing, IsOfQuestion, IsOwn, IsForLastNumber, Judges, RefusesLast, goes_on}
+use Rattle.sq_turns.specs.Judging.{EndsSo, Finishes, FitsDecided, IsAttempt, IsOfGoing, IsOfQuestion, IsOwn, IsForLastNumber, Judges, RefusesLast, TakesOwn, goes_on}
 use Rattle.sq_turns.specs.Tellings.{Asks, HubState, StandsAt, Tells, asks_for, machine_now}
 use Rattle.sq_turns.specs.declared.hub.HubFault.{HubFault}
 use Rattle.sq_turns.specs.declared.hub.HubFault.TheVariants.{Refused, JournalFault, WantOfMemory}
@@ -40,14 +40,17 @@ judges_record conn n r j v w x ask done = record {
       let behind = done.after configs (e ∷ h) (answer.2.stands configs h st) in
       record {
         more = behind.more ++ e ∷ [];
-        fits = record {
-          now = machine_now v;
-          rest = behind.more;
-          cut = ap (λ t. behind.more ++ entry_at (machine_now v) (asks_for conn r) t ∷ [])
-              (answer.1 ∙ ap told.Check (sym done.of_check.0));
-          ends = subst (λ k. EndsSo k j behind.more) (sym done.of_check.0) behind.fits;
-          request_is = same_request conn n r j v w x ask done;
-        };
+        fits = (
+          record {
+            now = machine_now v;
+            rest = behind.more;
+            cut = ap (λ t. behind.more ++ entry_at (machine_now v) (asks_for conn r) t ∷ [])
+                (answer.1 ∙ ap told.Check (sym done.of_check.0));
+            ends = subst (λ k. EndsSo k j behind.more) (sym done.of_check.0) behind.fits.0;
+            request_is = same_request conn n r j v w x ask done;
+          },
+          subst (λ l. TakesOwn configs l j) (sym (append_assoc (behind.more) (e ∷ []) (h))) behind.fits.1,
+        );
         stands = subst (λ l. StandsAt configs l x.machine) (sym (append_assoc (behind.more) (e ∷ []) (h)))
             behind.stands;
       };

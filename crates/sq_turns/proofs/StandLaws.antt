@@ -173,7 +173,7 @@ open_refuses g h WantOfMemory r = tt
 -- the entries of a question are a piece
 question_fits : (configs : List Configuration) (h : History) (conn : ℕ) (r : HttpRequest) (d : Decided) (more : History)
     → FitsDecided configs h conn r d more → IsQuestion conn r d more
-question_fits configs h conn r (decided.Record j) more fits = fits
+question_fits configs h conn r (decided.Record j) more fits = fits.0
 question_fits configs h conn r (decided.Mismatch other) more fits = fits
 question_fits configs h conn r (decided.Refused why) more fits = fits.0
 question_fits configs h conn r decided.JournalFault more fits = fits

@@ -17,11 +17,12 @@ use Rattle.sq_machine.specs.declared.entries.Told.{Told}
 use Rattle.sq_machine.specs.declared.entries.Told.TheVariants as told
 use Rattle.sq_machine.specs.declared.refusals.Refusal.{Refusal}
 use Rattle.sq_model.proofs.Lawful.{stands_same}
+use Rattle.sq_model.specs.CheckRows.{held_checks}
 use Rattle.sq_model.specs.States.{IsSame, State}
 use Rattle.sq_turns.proofs.WorkLaws.{works_before, works_self, works_then}
 use Rattle.sq_turns.proofs.SpentLaws.{done_now, first_of, second_of, stays_open, step_spent, take_spent}
 use Rattle.sq_turns.specs.Judging.{Finishes, GoesOn, IsForLastNumber, goes_on}
-use Rattle.sq_turns.specs.Tellings.{AreKept, HubState, IsStep, IsTaken, Makes, MakesOn, StandsAt, Takes, Tells, Waited, Works, begun_of, is_outside, machine_now}
+use Rattle.sq_turns.specs.Tellings.{AreKept, HubState, IsStep, IsTaken, IsTakenOf, Makes, MakesOn, StandsAt, Takes, Tells, Waited, Works, begun_of, is_outside, machine_now}
 use Rattle.sq_turns.specs.declared.hub.HubFault.{HubFault}
 use Rattle.sq_turns.specs.declared.hub.HubFault.TheVariants.{Refused, JournalFault, WantOfMemory}
 
@@ -155,6 +156,11 @@ goes_done n s v w x is go call = record {
   pools = call.makes.pools ∙ go.pools;
 }
 
+-- the machine's row of a check is that of its history
+taken_of_history : (n : ℕ) (j : Judged) (configs : List Configuration) (h : History) (s : State) → StandsAt configs h s
+    → IsTakenOf n j s.checks → IsTakenOf n j (held_checks configs (marked configs h))
+taken_of_history n j configs h s st row = subst (λ l. IsTakenOf n j l) st.stands.stands.checks_are row
+
 -- the record is taken
 goes_taken : (n : ℕ) (j : Judged) (v w x : HubState) → GoesOn n v w → Takes n (Ok j) w x → Finishes n (Ok j) v x
 goes_taken n j v w x go take = record {
@@ -163,12 +169,24 @@ goes_taken n j v w x go take = record {
       let answer = take.makes.makes.answers in
       record {
         more = entry_at (machine_now w) (event.Take n) answer.0 ∷ before.0;
-        fits = record {
-          now = machine_now w;
-          steps = before.0;
-          cut = ap (λ t. entry_at (machine_now w) (event.Take n) t ∷ before.0) answer.1;
-          on = before.1;
-        };
+        fits = (
+          record {
+            now = machine_now w;
+            steps = before.0;
+            cut = ap (λ t. entry_at (machine_now w) (event.Take n) t ∷ before.0) answer.1;
+            on = before.1;
+          },
+          record {
+            now = machine_now w;
+            before = before.0 ++ h;
+            cut = ap (λ t. entry_at (machine_now w) (event.Take n) t ∷ (before.0 ++ h)) answer.1
+                ∙ ap (λ k. entry_at (machine_now w) (event.Take k) (told.Judged j.epoch j.outcome) ∷ (before.0 ++ h))
+                (sym take.of_check.0);
+            row = subst (λ k. IsTakenOf k j (held_checks configs (marked configs (before.0 ++ h))))
+                (sym take.of_check.0)
+                (taken_of_history n j configs (before.0 ++ h) w.machine before.2 take.of_row);
+          },
+        );
         stands = answer.2.stands configs (before.0 ++ h) before.2;
       };
   of_check = (take.of_check.0, go.kept n (begun_of j) take.of_check.1);

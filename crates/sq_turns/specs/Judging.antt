@@ -41,7 +41,8 @@ use Rattle.sq_turns.specs.declared.front.Rewritten.TheVariants as rewritten
 use Rattle.sq_turns.specs.declared.front.SitFault.{SitFault}
 use Rattle.sq_turns.specs.declared.front.SitFault.TheVariants as sit
 use Rattle.sq_model.specs.States.{IsSame, State}
-use Rattle.sq_turns.specs.Tellings.{AreKept, Chooses, ChoosesTag, Grants, GrantsTag, HubState, IsNext, IsOfCheck, IsRefused, Leaves, LeavesTag, StandsAt, Works, asks_for, is_outside, machine_now, puts_for}
+use Rattle.sq_turns.specs.Tellings.{AreKept, Chooses, ChoosesTag, Grants, GrantsTag, HubState, IsNext, IsOfCheck, IsRefused, IsTakenOf, Leaves, LeavesTag, StandsAt, Works, asks_for, is_outside, machine_now, pools_now, puts_for, tags_now}
+use Rattle.sq_model.specs.CheckRows.{held_checks}
 use Rattle.sq_turns.specs.declared.hub.HubFault.{HubFault}
 use Rattle.sq_turns.specs.declared.hub.HubFault.TheVariants.{Refused, JournalFault, WantOfMemory}
 use Rattle.sq_pools.specs.declared.held_seats.HeldSeat.{HeldSeat}
@@ -115,10 +116,19 @@ pub record EndsSo (check : ℕ) (j : Judged) (entries : History) : Type 0 where
   pub cut : entries ≡ entry_at now (event.Take check) (told.Judged j.epoch j.outcome) ∷ steps
   pub on : list_all (goes_on check) steps ≡ true
 
--- the entries that a check added up to its record, or up to what kept it from one; a refusal is the
--- machine's, and of a check that was open it says that a number would be the last
+-- a history whose newest entry is the taking of this record, which is what the machine has of the
+-- check behind the older ones, its answers among the rest
+pub record TakesOwn (configs : List Configuration) (h : History) (j : Judged) : Type 0 where
+  pub now : ℕ
+  pub before : History
+  pub cut : h ≡ entry_at now (event.Take j.check) (told.Judged j.epoch j.outcome) ∷ before
+  pub row : IsTakenOf j.check j (held_checks configs (marked configs before))
+
+-- the entries that a check added up to its record, which is the machine's, or up to what kept it
+-- from one; a refusal is the machine's, and of a check that was open it says that a number would be
+-- the last
 abbrev pub FitsResult : List Configuration → History → ℕ → Result Judged HubFault → History → Type 0
-FitsResult configs h check (Ok j) more = EndsSo check j more
+FitsResult configs h check (Ok j) more = EndsSo check j more × TakesOwn configs (more ++ h) j
 FitsResult configs h check (Err (Refused why)) more =
     (list_all (goes_on check) more ≡ true)
     × (¬ (why ≡ refusal.WantOfMemory)
@@ -166,12 +176,14 @@ pub record IsAttempt (conn : ℕ) (request : HttpRequest) (entries : History) : 
 abbrev pub IsOfQuestion : ℕ → HttpRequest → Event → Type 0
 IsOfQuestion conn request e = (e ≡ asks_for conn request) ⊎ ((n : ℕ) × IsOfGoing n e)
 
--- the entries that a question added; no other request is judged, and a refusal is the machine's; on
--- a connection that was open without a check it says that a number would be the last
+-- the entries that a question added; a record is the machine's, no other request is judged, and a
+-- refusal is the machine's; on a connection that was open without a check it says that a number
+-- would be the last
 abbrev pub FitsDecided : List Configuration → History → ℕ → HttpRequest → Decided → History → Type 0
 FitsDecided configs h conn request (decided.Record j) more = IsDecision conn request j more
 FitsDecided configs h conn request (decided.Mismatch other) more = ⊥
 FitsDecided configs h conn request (decided.Refused why) more =
+    × TakesOwn configs (more ++ h) j
     IsAttempt conn request more × ((e : Event) × IsOfQuestion conn request e
     × RefusesLast configs (more ++ h) e why)
     × (is_some (peer_at h conn) ≡ true → open_check h conn ≡ None → IsForLastNumber why)

@@ -26,6 +26,7 @@ use Rattle.sq_rewrite.specs.States.{Refuses, RewriteState, RunsOn, after, after_
 use Rattle.sq_rewrite.specs.declared.faults.RewriteFault.{RewriteFault}
 use Rattle.sq_rewrite.specs.declared.faults.RewriteFault.TheVariants as fault
 use Rattle.sq_rewrite.specs.declared.rewritings.Rewriting.{Rewriting}
+use Rattle.sq_rules.specs.Sights.{unversioned_sight}
 use Rattle.sq_rules.specs.declared.sights.Sight.{Sight}
 use Rattle.sq_model.specs.declared.stepping.Stepped.{Stepped}
 use Rattle.sq_model.specs.declared.stepping.Stepped.TheVariants as stepped
@@ -33,6 +34,7 @@ use Rattle.sq_checks.specs.Records.{Judged}
 use Rattle.sq_pools.specs.Basins.{Basin, HasLeft, IsChosen, IsGranted, IsTagChosen, grant_in, seat_in}
 use Rattle.sq_pools.specs.declared.pools.ChooseFault.{ChooseFault}
 use Rattle.sq_pools.specs.declared.pools.ChooseFault.TheVariants as choose
+use Rattle.sq_model.specs.CheckRows.{Held, held_at}
 use Rattle.sq_model.specs.Promises.{StandsFor}
 use Rattle.sq_model.specs.States.{IsSame, State}
 use Rattle.sq_turns.specs.declared.hub.HubFault.{HubFault}
@@ -157,9 +159,32 @@ abbrev pub IsOfCheck : ℕ → Result Judged HubFault → HubState → Type 0
 IsOfCheck n (Ok r) v = (r.check ≡ n) × (v.begun n ≡ Some (begun_of r))
 IsOfCheck n (Err f) v = ⊤
 
+-- the machine's row of the check of a record, on this connection, before that is taken: it has the
+-- epoch, what was seen, but for the HTTP version, the answers in order, and how often it was
+-- stepped; it is done and waits for nothing
+abbrev pub row_taken : ℕ → Judged → Held
+row_taken conn j = record {
+  number = j.check;
+  asked = record { conn = conn; epoch = j.epoch; sight = unversioned_sight j.sight };
+  waits = None;
+  answers = j.answers;
+  done = true;
+  steps = j.steps;
+}
+
+-- this is the row of the record's check among these open ones
+abbrev pub IsTakenOf : ℕ → Judged → List Held → Type 0
+IsTakenOf n j checks = (conn : ℕ) × (held_at n checks ≡ Some (row_taken conn j))
+
+-- the record that is taken is the machine's of the check
+abbrev pub IsOfRow : ℕ → Result Judged HubFault → HubState → Type 0
+IsOfRow n (Ok j) v = IsTakenOf n j v.machine.checks
+IsOfRow n (Err f) v = ⊤
+
 pub record Takes (n : ℕ) (result : Result Judged HubFault) (v w : HubState) : Type 0 where
   pub makes : MakesOn IsTaken (event.Take n) result v w
   pub of_check : IsOfCheck n result v
+  pub of_row : IsOfRow n result v
 
 -- an event that no connection makes: an act, what comes from a helper process or its start, or
 -- another configuration

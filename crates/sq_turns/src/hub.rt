@@ -93,7 +93,7 @@ pub trait Hub {
         ensures refused_later { refused self.old ≤ refused self.new }
         ensures faults_later { faults self.old ≤ faults self.new };
 
-    /// Takes the record of a check that is done.
+    /// Takes the record of a check that is done: where it tells, that is the machine's of this check, with its answers.
     fn take(&mut self, alloc: Global, check: CheckNo) -> Result<Record, HubFault>
         ensures told { Tells (Takes check result) (told self.old) (told self.new) }
         ensures refused { HubRefuses (refused self.old) (refused self.new) result }
