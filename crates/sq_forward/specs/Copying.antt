@@ -75,7 +75,7 @@ CopyHasCause source source_now sink sink_now Bad = ⊤
 CopyHasCause source source_now sink sink_now Starved = ⊤
 CopyHasCause source source_now sink sink_now WantOfMemory = ⊤
 
--- how dry the meter is then
+-- how dry the meter is then: how many pauses came, each behind a grant that found a bucket empty
 abbrev pub dry_after_copy : Copied → ℕ
 dry_after_copy Starved = dry_limit
 dry_after_copy Whole = 0

@@ -239,7 +239,8 @@ ExchangeHasCause client origin OriginCut = ⊤
 ExchangeHasCause client origin Starved = ⊤
 ExchangeHasCause client origin WantOfMemory = ⊤
 
--- how dry the meter is behind an exchange
+-- how dry the meter is behind an exchange: how many pauses came, each behind a grant that found a
+-- bucket empty
 abbrev pub dry_after_exchange : Exchanged → ℕ
 dry_after_exchange Starved = dry_limit
 dry_after_exchange Kept = 0

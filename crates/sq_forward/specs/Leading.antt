@@ -137,7 +137,7 @@ abbrev pub SendsText : {T : Type 0} → List ℕ → Metered → Result T Exchan
 SendsText text to (Ok u) = PaysAll text to
 SendsText text to (Err end) = PaysHeads text to end
 
--- how dry the meter is then
+-- how dry the meter is then: how many pauses came, each behind a grant that found a bucket empty
 abbrev pub dry_after_sending : {T : Type 0} → Result T Exchanged → ℕ
 dry_after_sending (Ok x) = 0
 dry_after_sending (Err end) = dry_after_exchange end

@@ -9,11 +9,11 @@ use Rattle.sq_outside.specs.Output.{IsPrefix}
 abbrev pub piece_limit : ℕ
 piece_limit = 16384
 
--- so many pauses since a grant gave some, each behind a grant that gave none, end it
+-- so many pauses since a grant gave some, each behind a grant that found a bucket empty, end it
 abbrev pub dry_limit : ℕ
 dry_limit = 3600
 
--- a grant wanted some and gave none
+-- a grant wanted some and gave none, which it does only where a bucket is empty
 abbrev pub is_short : ℕ → ℕ → Bool
 is_short wanted given = nat_lt 0 wanted && given == 0
 

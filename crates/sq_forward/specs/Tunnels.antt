@@ -30,7 +30,8 @@ WayHasCause source source_now sink sink_now Ended = ⊤
 WayHasCause source source_now sink sink_now Starved = ⊤
 WayHasCause source source_now sink sink_now WantOfMemory = ⊤
 
--- how dry the meter of a way is then
+-- how dry the meter of a way is then: how many pauses came, each behind a grant that found a bucket
+-- empty
 abbrev pub dry_after_way : WayEnd → ℕ
 dry_after_way Starved = dry_limit
 dry_after_way Ended = 0
@@ -56,7 +57,7 @@ JoinsWays up down tunnelled.Starved = (up ≡ Starved) ⊎ (down ≡ Starved)
 JoinsWays up down tunnelled.WantOfMemory = ((up ≡ WantOfMemory) ⊎ (down ≡ WantOfMemory))
     × (down ≡ Starved → ⊥) × (down ≡ NoSink → ⊥)
 
--- how dry the meter is behind a tunnel
+-- and how dry that of the client is behind a tunnel
 abbrev pub dry_after_tunnel : Tunnelled → ℕ
 dry_after_tunnel tunnelled.Starved = dry_limit
 dry_after_tunnel tunnelled.Ended = 0

@@ -29,7 +29,7 @@ pub(crate) enum Copied {
     NoSource,
     /// The sink failed.
     NoSink,
-    /// Nothing was granted for too long.
+    /// For too long each grant found a bucket empty.
     Starved,
     /// There was no memory.
     WantOfMemory,

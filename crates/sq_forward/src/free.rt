@@ -6,12 +6,14 @@ use crate::meter::Meter;
 pub(crate) struct Free;
 
 impl Meter for Free {
-    ghost use Rattle.std.specs.Prelude.{false};
+    ghost use Rattle.std.specs.Prelude.{Some, false};
     ghost use Rattle.std.proofs.Common.{rules};
 
     ghost seated = { λ _. false };
 
     ghost granted = { λ _. 0 };
+
+    ghost emptied = { λ _. Some false };
 
     ghost short = { λ _. false };
 

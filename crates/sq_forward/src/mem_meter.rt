@@ -18,9 +18,13 @@ pub struct MemMeter {
 }
 
 impl Meter for MemMeter {
+    ghost use Rattle.std.specs.Prelude.{◌==◌, ◌&&◌, Some};
+
     ghost seated = { λ m. m.seated };
 
     ghost granted = { λ m. m.granted };
+
+    ghost emptied = { λ m. Some (m.seated && m.room == 0) };
 
     ghost short = { λ m. m.short };
 

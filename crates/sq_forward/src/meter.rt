@@ -1,5 +1,6 @@
 //! `Meter`: what grants bytes.
-ghost use Rattle.std.specs.Prelude.{◌≡◌, ℕ, ◌≤◌, Bool, false};
+ghost use Rattle.std.specs.Prelude.{◌≡◌, ◌==◌, ℕ, ◌<◌, ◌≤◌, Bool, false, IfSome};
+ghost use Rattle.std.specs.declared.option.Option.{Option};
 ghost use Rattle.sq_forward.specs.Meters.{is_short, Gives, granted_after, dry_after_grant, dry_after_pause};
 ghost use Rattle.sq_outside.specs.Causes.{count_limit};
 
@@ -11,10 +12,13 @@ pub trait Meter {
     /// How many bytes were granted on seats. It never falls.
     ghost granted: { Self → ℕ };
 
-    /// Whether the last call was a grant that wanted some and gave none.
+    /// Whether a bucket of its seat is empty at the moment of its next call, where it tells that. Without a seat none is.
+    ghost emptied: { Self → Option Bool };
+
+    /// Whether the last call was a grant that wanted some and found a bucket of its seat empty, so that it gave none.
     ghost short: { Self → Bool };
 
-    /// How many pauses came since a grant gave some, each of them behind a grant that gave none.
+    /// How many pauses came since a grant gave some, each of them behind a grant that found a bucket of its seat empty.
     ghost dry: { Self → ℕ };
 
     /// What else it stands for. No grant and no pause changes that.
@@ -26,9 +30,11 @@ pub trait Meter {
     fn is_seated(&self) -> bool
         ensures { result ≡ seated self.now };
 
-    /// Grants at most so many bytes, and all of them where no seat is held.
+    /// Grants at most so many bytes, and all of them where no seat is held. Where some are wanted it grants none exactly
+    /// where a bucket of its seat is empty. Where it is not the turn of the seat, it waits for that.
     fn grant(&mut self, wanted: u64) -> u64
         ensures gives { Gives (seated self.old) wanted result }
+        ensures empty { 0 < wanted → IfSome (emptied self.old) (λ e. (result == 0) ≡ e) }
         ensures seated { seated self.new ≡ seated self.old }
         ensures besides { besides self.new ≡ besides self.old }
         ensures granted { granted self.new

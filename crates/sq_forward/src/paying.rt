@@ -9,7 +9,7 @@ use sq_outside::{Failed, Sink, write_all};
 // At most this many bytes are wanted at a time.
 const PIECE: usize = 16_384;
 
-// So many pauses without a grant end it.
+// So many pauses since a grant gave some, each behind one that found a bucket empty, end it.
 const DRY_LIMIT: u32 = 3_600;
 
 /// Why bytes were not written.
@@ -17,7 +17,7 @@ const DRY_LIMIT: u32 = 3_600;
 pub(crate) enum Unpaid {
     /// The sink failed.
     Failed,
-    /// Nothing was granted for too long.
+    /// For too long each grant found a bucket empty.
     Starved,
 }
 

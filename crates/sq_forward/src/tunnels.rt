@@ -22,7 +22,7 @@ pub enum Tunnelled {
     ClientFault,
     /// The origin's link failed.
     OriginFault,
-    /// Nothing was granted for too long.
+    /// For too long each grant found a bucket empty.
     Starved,
     /// There was no memory.
     WantOfMemory,

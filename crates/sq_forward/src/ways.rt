@@ -23,7 +23,7 @@ pub(crate) enum WayEnd {
     NoSource,
     /// The sink failed.
     NoSink,
-    /// Nothing was granted for too long.
+    /// For too long each grant found a bucket empty.
     Starved,
     /// There was no memory.
     WantOfMemory,

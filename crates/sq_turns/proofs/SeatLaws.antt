@@ -1,5 +1,5 @@
 -- What a call for a seat makes of what a hub tells.
-use Rattle.std.proofs.Common.{◌≡◌, inl, inr, ℕ, List, true, Option, Some, None, is_some, Result, Ok, Err, refl, ap, subst}
+use Rattle.std.proofs.Common.{◌≡◌, ◌==◌, ◌<◌, inl, inr, ℕ, List, true, false, Option, Some, None, IfSome, is_some, Result, Ok, Err, refl, ap, subst, arith}
 use Rattle.sq_checks.specs.Records.{Judged, needs_tag}
 use Rattle.sq_machine.specs.SeatPlaces.{pool_at, seat_place}
 use Rattle.sq_machine.specs.declared.places.SeatPlace.{SeatPlace}
@@ -8,8 +8,8 @@ use Rattle.sq_pools.specs.declared.pools.ChooseFault.{ChooseFault}
 use Rattle.sq_turns.specs.Fronts.{takes_seat}
 use Rattle.sq_turns.specs.declared.front.SitFault.{SitFault}
 use Rattle.sq_turns.specs.declared.front.SitFault.TheVariants as sit
-use Rattle.sq_turns.specs.Judging.{GrantsOn, Rises, Seats, SeatsAt, Sits, seat_of}
-use Rattle.sq_turns.specs.Tellings.{Chooses, ChoosesTag, HubState, LeavesMachine, Tells}
+use Rattle.sq_turns.specs.Judging.{GrantsOn, Rises, Seats, SeatsAt, Sits, emptied_on, seat_of}
+use Rattle.sq_turns.specs.Tellings.{Chooses, ChoosesTag, Grants, GrantsTag, HubState, LeavesMachine, Tells}
 use Rattle.sq_pools.specs.declared.held_seats.HeldSeat.{HeldSeat}
 use Rattle.sq_pools.specs.declared.held_seats.HeldSeat.TheVariants as held
 
@@ -44,6 +44,28 @@ pub grants_rest : (seat : Option HeldSeat) (wanted given : ℕ) (v w : HubState)
 grants_rest None wanted given v w x = same_rest v w x
 grants_rest (Some (held.ByAddress n)) wanted given v w x = x.rest.rest
 grants_rest (Some (held.ByTag n)) wanted given v w x = x.rest.rest
+
+-- where some bytes are wanted a hub that tells grants none exactly where a bucket of the seat is empty
+pub addressed_empty : (n wanted given : ℕ) (a b : Option HubState) → Tells (Grants n wanted given) a b → 0 < wanted
+    → IfSome (emptied_on (Some (held.ByAddress n)) a) (λ e. (given == 0) ≡ e)
+addressed_empty n wanted given None b p some = tt
+addressed_empty n wanted given (Some v) b p some = p.2.nothing some
+
+pub tagged_empty : (n wanted given : ℕ) (a b : Option HubState) → Tells (GrantsTag n wanted given) a b → 0 < wanted
+    → IfSome (emptied_on (Some (held.ByTag n)) a) (λ e. (given == 0) ≡ e)
+tagged_empty n wanted given None b p some = tt
+tagged_empty n wanted given (Some v) b p some = p.2.nothing some
+
+some_wanted : (n : ℕ) → 0 < n → (n == 0) ≡ false
+some_wanted n h = grind (arith, h)
+
+-- and without a seat it grants some
+pub seatless_empty : (wanted : ℕ) (a : Option HubState) → 0 < wanted
+    → IfSome (emptied_on None a) (λ e. (wanted == 0) ≡ e)
+seatless_empty wanted a some = some_wanted wanted some
+
+-- what a front is granted
+pub ruleset grant_empties = (addressed_empty, tagged_empty, seatless_empty)
 
 -- a call for a seat that is refused leaves what the front held
 pub tells_unseated : (j : Judged) (fault : SitFault) (before now : Option HeldSeat) (a b : Option HubState)

@@ -2,6 +2,7 @@
 -- a seat make of what a hub tells.
 use Rattle.std.specs.Prelude.{◌≡◌, ◌⊎◌, ℕ, ◌==◌, List, [], ◌∷◌, ◌++◌, Bool, true, false, ◌||◌, Some, None, is_some, Ok, Err, ⊤}
 use Rattle.std.specs.List.{list_all}
+use Rattle.std.specs.Option.{option_map}
 use Rattle.std.specs.declared.option.Option.{Option}
 use Rattle.std.specs.declared.result.Result.{Result}
 use Rattle.sq_base.specs.Addresses.{Address}
@@ -28,6 +29,7 @@ use Rattle.sq_rewrite.specs.declared.faults.RewriteFault.{RewriteFault}
 use Rattle.sq_rewrite.specs.declared.faults.RewriteFault.TheVariants as fault
 use Rattle.sq_rewrite.specs.declared.rewritings.Rewriting.{Rewriting}
 use Rattle.sq_rewrite.specs.declared.rewritings.Rewriting.TheVariants as rewriting
+use Rattle.sq_pools.specs.Basins.{is_dry, seat_in}
 use Rattle.sq_pools.specs.declared.pools.ChooseFault.{ChooseFault}
 use Rattle.sq_pools.specs.declared.pools.ChooseFault.TheVariants as choose
 use Rattle.sq_turns.specs.declared.front.CloseFault.{CloseFault}
@@ -40,9 +42,9 @@ use Rattle.sq_turns.specs.declared.front.Rewritten.{Rewritten}
 use Rattle.sq_turns.specs.declared.front.Rewritten.TheVariants as rewritten
 use Rattle.sq_turns.specs.declared.front.SitFault.{SitFault}
 use Rattle.sq_turns.specs.declared.front.SitFault.TheVariants as sit
+use Rattle.sq_model.specs.CheckRows.{held_checks}
 use Rattle.sq_model.specs.States.{IsSame, State}
 use Rattle.sq_turns.specs.Tellings.{AreKept, Chooses, ChoosesTag, Grants, GrantsTag, HubState, IsNext, IsOfCheck, IsRefused, IsTakenOf, Leaves, LeavesTag, StandsAt, Works, asks_for, is_outside, machine_now, pools_now, puts_for, tags_now}
-use Rattle.sq_model.specs.CheckRows.{held_checks}
 use Rattle.sq_turns.specs.declared.hub.HubFault.{HubFault}
 use Rattle.sq_turns.specs.declared.hub.HubFault.TheVariants.{Refused, JournalFault, WantOfMemory}
 use Rattle.sq_pools.specs.declared.held_seats.HeldSeat.{HeldSeat}
@@ -181,9 +183,9 @@ IsOfQuestion conn request e = (e ≡ asks_for conn request) ⊎ ((n : ℕ) × Is
 -- would be the last
 abbrev pub FitsDecided : List Configuration → History → ℕ → HttpRequest → Decided → History → Type 0
 FitsDecided configs h conn request (decided.Record j) more = IsDecision conn request j more
+    × TakesOwn configs (more ++ h) j
 FitsDecided configs h conn request (decided.Mismatch other) more = ⊥
 FitsDecided configs h conn request (decided.Refused why) more =
-    × TakesOwn configs (more ++ h) j
     IsAttempt conn request more × ((e : Event) × IsOfQuestion conn request e
     × RefusesLast configs (more ++ h) e why)
     × (is_some (peer_at h conn) ≡ true → open_check h conn ≡ None → IsForLastNumber why)
@@ -321,6 +323,15 @@ abbrev pub GrantsOn : Option HeldSeat → ℕ → ℕ → HubState → HubState 
 GrantsOn None wanted given old new = new ≡ old
 GrantsOn (Some (held.ByAddress seat)) wanted given old new = Grants seat wanted given old new
 GrantsOn (Some (held.ByTag seat)) wanted given old new = GrantsTag seat wanted given old new
+
+-- whether a bucket of the seat that a front holds is empty at the moment of the next call, where
+-- its hub tells; without a seat none is
+abbrev pub emptied_on : Option HeldSeat → Option HubState → Option Bool
+emptied_on None told = Some false
+emptied_on (Some (held.ByAddress seat)) told = option_map
+    (λ v. is_dry v.pools.addressed (pools_now v) (seat_in v.pools.addressed seat)) told
+emptied_on (Some (held.ByTag seat)) told = option_map
+    (λ v. is_dry v.pools.tagged (tags_now v) (seat_in v.pools.tagged seat)) told
 
 -- a seat is given back; without one nothing changes
 abbrev pub Rises : Option HeldSeat → HubState → HubState → Type 0

@@ -253,7 +253,7 @@ SessionHasCause client origin OriginCut = ⊤
 SessionHasCause client origin Starved = ⊤
 SessionHasCause client origin WantOfMemory = ⊤
 
--- how dry the front is then
+-- how dry the front is then: how many pauses came, each behind a grant that found a bucket empty
 abbrev pub dry_after_session : End → ℕ
 dry_after_session Starved = dry_limit
 dry_after_session Finished = 0

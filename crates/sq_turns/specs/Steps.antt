@@ -48,7 +48,7 @@ spare_of (Over OriginFault) = 0
 spare_of (Over Starved) = 0
 spare_of (Over WantOfMemory) = 0
 
--- how dry the meter is then
+-- how dry the meter is then: how many pauses came, each behind a grant that found a bucket empty
 abbrev pub dry_after : Carried → ℕ
 dry_after Stays = 0
 dry_after Closes = 0

@@ -1,6 +1,6 @@
 -- What a hub tells of the machine, of the rewriter and of the delay pools, and what each of its
 -- calls makes of that.
-use Rattle.std.specs.Prelude.{◌≡◌, ℕ, ◌<◌, ◌≤◌, List, ◌∷◌, ◌++◌, Bool, true, false, max, suc, Some, None, is_some, Ok, Err, OnErr, ⊤}
+use Rattle.std.specs.Prelude.{◌≡◌, ℕ, ◌<◌, ◌≤◌, ◌==◌, List, ◌∷◌, ◌++◌, Bool, true, false, max, suc, Some, None, is_some, Ok, Err, OnErr, ⊤}
 use Rattle.std.specs.List.{list_all}
 use Rattle.std.specs.Option.{option_map}
 use Rattle.std.specs.declared.option.Option.{Option}
@@ -31,7 +31,7 @@ use Rattle.sq_rules.specs.declared.sights.Sight.{Sight}
 use Rattle.sq_model.specs.declared.stepping.Stepped.{Stepped}
 use Rattle.sq_model.specs.declared.stepping.Stepped.TheVariants as stepped
 use Rattle.sq_checks.specs.Records.{Judged}
-use Rattle.sq_pools.specs.Basins.{Basin, HasLeft, IsChosen, IsGranted, IsTagChosen, grant_in, seat_in}
+use Rattle.sq_pools.specs.Basins.{Basin, HasLeft, IsChosen, IsGranted, IsTagChosen, grant_in, is_dry, seat_in}
 use Rattle.sq_pools.specs.declared.pools.ChooseFault.{ChooseFault}
 use Rattle.sq_pools.specs.declared.pools.ChooseFault.TheVariants as choose
 use Rattle.sq_model.specs.CheckRows.{Held, held_at}
@@ -256,17 +256,23 @@ pub record ChoosesTag (epoch : ℕ) (c : Configuration) (pool : ℕ) (tag : List
   pub seat : ChoosesSeat (λ old new. IsTagChosen old new epoch c pool tag (tags_now v)) result
       v.pools.tagged w.pools.tagged
 
--- what the seat is granted is what its buckets have
+-- what the seat is granted is what its buckets have: where some is wanted, nothing exactly where
+-- one of them is empty
 pub record Grants (seat wanted given : ℕ) (v w : HubState) : Type 0 where
   pub rest : LeavesTags v w
   pub amount : given ≡ grant_in v.pools.addressed (pools_now v) wanted
       (seat_in v.pools.addressed seat)
+  pub nothing : 0 < wanted → (given == 0) ≡ is_dry v.pools.addressed (pools_now v)
+      (seat_in v.pools.addressed seat)
   pub taken : IsGranted v.pools.addressed w.pools.addressed (pools_now v) given
       (seat_in v.pools.addressed seat)
 
+-- the same on a seat for a tag
 pub record GrantsTag (seat wanted given : ℕ) (v w : HubState) : Type 0 where
   pub rest : LeavesAddressed v w
   pub amount : given ≡ grant_in v.pools.tagged (tags_now v) wanted (seat_in v.pools.tagged seat)
+  pub nothing : 0 < wanted → (given == 0) ≡ is_dry v.pools.tagged (tags_now v)
+      (seat_in v.pools.tagged seat)
   pub taken : IsGranted v.pools.tagged w.pools.tagged (tags_now v) given
       (seat_in v.pools.tagged seat)
 

@@ -13,7 +13,7 @@ pub enum End {
     OriginCut,
     /// The origin's link failed behind the reply's head.
     OriginFault,
-    /// Nothing was granted for too long.
+    /// For too long each grant found a bucket empty.
     Starved,
     /// There was no memory.
     WantOfMemory,

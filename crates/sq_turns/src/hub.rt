@@ -142,7 +142,8 @@ pub trait Hub {
         ensures refused_later { refused self.old ≤ refused self.new }
         ensures faults_later { faults self.old ≤ faults self.new };
 
-    /// Grants at most so many bytes on a seat. It takes no memory.
+    /// Grants at most so many bytes on a seat. Where some are wanted it grants none only where a bucket of the seat is empty.
+    /// Where it is not the turn of the seat, it waits for that. It takes no memory.
     fn grant(&mut self, seat: &Seat, wanted: u64) -> u64
         ensures told { Tells (Grants seat.now wanted result) (told self.old) (told self.new) }
         ensures within { result ≤ wanted }
@@ -176,7 +177,7 @@ pub trait Hub {
         ensures refused_later { refused self.old ≤ refused self.new }
         ensures faults_later { faults self.old ≤ faults self.new };
 
-    /// Grants at most so many bytes on a seat for a tag. It takes no memory.
+    /// The same on a seat for a tag.
     fn grant_tag(&mut self, seat: &TagSeat, wanted: u64) -> u64
         ensures told { Tells (GrantsTag seat.now wanted result) (told self.old) (told self.new) }
         ensures within { result ≤ wanted }

@@ -1,8 +1,8 @@
 //! `HubFront`: the front of one connection over a hub.
-ghost use Rattle.std.specs.Prelude.{◌≡◌, ◌≤◌, ◌-◌, ◌^◌, is_some, false};
+ghost use Rattle.std.specs.Prelude.{◌≡◌, ◌==◌, ◌<◌, ◌≤◌, ◌-◌, ◌^◌, IfSome, is_some, false};
 ghost use Rattle.std.specs.declared.option.Option.{Option};
 ghost use Rattle.sq_turns.specs.Hubs.{opened_of, unclosed_of, OpenFails, CloseFails, DecideFails};
-ghost use Rattle.sq_turns.specs.Judging.{GrantsOn};
+ghost use Rattle.sq_turns.specs.Judging.{GrantsOn, emptied_on};
 ghost use Rattle.sq_turns.specs.Tellings.{Tells};
 
 use crate::asked_rewriter::rewrite;
@@ -32,7 +32,7 @@ pub struct HubFront<'a, R: Wait, H: Hub + Drop> {
 }
 
 impl<'a, R: Wait, H: Hub + Drop> HubFront<'a, R, H> {
-    ghost use Rattle.std.specs.Prelude.{List, [], IfSome};
+    ghost use Rattle.std.specs.Prelude.{List, []};
     ghost use Rattle.sq_rules.specs.Configurations.{Configuration};
     ghost use Rattle.sq_machine.specs.Entries.{History};
     ghost use Rattle.sq_turns.specs.Pieces.{FrontStands, RunsTo, served_told};
@@ -81,6 +81,8 @@ impl<'a, R: Wait, H: Hub + Drop> Meter for HubFront<'a, R, H> {
 
     ghost granted = { λ f. H.granted f.hub };
 
+    ghost emptied = { λ f. emptied_on f.seat (H.told f.hub) };
+
     ghost short = { λ f. f.short };
 
     ghost dry = { λ f. f.dry };
@@ -105,6 +107,8 @@ impl<'a, R: Wait, H: Hub + Drop> Meter for HubFront<'a, R, H> {
         ensures told { Tells (GrantsOn self.old.seat wanted result) (H.told self.old.hub)
             (H.told self.new.hub) }
         ensures gives { Gives (is_some self.old.seat) wanted result }
+        ensures empty { 0 < wanted
+            → IfSome (emptied_on self.old.seat (H.told self.old.hub)) (λ e. (result == 0) ≡ e) }
         ensures seated { is_some self.new.seat ≡ is_some self.old.seat }
         ensures besides { ◌≡◌ {A = Counted}
             (record {

@@ -1,8 +1,8 @@
 //! The seat of one connection: which one a record takes, what is granted on it, and that it is given back.
-ghost use Rattle.std.specs.Prelude.{◌≡◌, ◌≤◌, false, is_some, Some, IfOk};
+ghost use Rattle.std.specs.Prelude.{◌≡◌, ◌==◌, ◌<◌, ◌≤◌, false, is_some, Some, IfOk, IfSome};
 ghost use Rattle.sq_forward.specs.Meters.{granted_after};
 ghost use Rattle.sq_turns.specs.Fronts.{takes_seat};
-ghost use Rattle.sq_turns.specs.Judging.{GrantsOn, Rises, Seats, unseated_of};
+ghost use Rattle.sq_turns.specs.Judging.{GrantsOn, Rises, Seats, emptied_on, unseated_of};
 ghost use Rattle.sq_turns.specs.Tellings.{Tells};
 
 use crate::front::SitFault;
@@ -56,11 +56,15 @@ fn unseated_of(fault: ChooseFault) -> SitFault
     }
 }
 
-/// What the hub grants on a seat; without one all that is wanted. It takes no memory.
+/// What the hub grants on a seat; without one all that is wanted. Where some is wanted it is nothing exactly where a
+/// bucket of the seat is empty. It takes no memory.
+#[tactic(auto, using(crate::proofs::SeatLaws::grant_empties))]
 pub(crate) fn granted<H: Hub>(hub: &mut H, seat: &Option<HeldSeat>, wanted: u64) -> u64
     ensures told { Tells (GrantsOn seat.now wanted result) (H.told hub.old) (H.told hub.new) }
     ensures within { result ≤ wanted }
     ensures all { is_some seat.now ≡ false → result ≡ wanted }
+    ensures empty { 0 < wanted
+        → IfSome (emptied_on seat.now (H.told hub.old)) (λ e. (result == 0) ≡ e) }
     ensures granted { H.granted hub.new
         ≡ granted_after (is_some seat.now) (H.granted hub.old) result }
     ensures asked { H.asked hub.new ≡ H.asked hub.old }

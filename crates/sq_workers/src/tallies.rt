@@ -154,8 +154,8 @@ impl<G: Ledger> Tally<G> {
         (self.grant_now(rt, bank, seat, wanted, now), now)
     }
 
-    /// Grants bytes to a seat. Of some it grants none only where a bucket of the seat is empty: then `gains_at` is when its
-    /// buckets gain. Where it is not its turn, it pauses, without the lock, until they gain, and asks again.
+    /// Grants bytes to a seat. Where some are wanted it grants none only where a bucket of the seat is empty: then `gains_at`
+    /// is when its buckets gain. Where it is not its turn, it pauses, without the lock, until they gain, and asks again.
     #[tactic(auto, using(crate::proofs::HubLaws::hub_granted))]
     pub(crate) fn grant<R: Wait, C: Clock>(
         &mut self,
