@@ -44,6 +44,20 @@ def seconds(text: str) -> float:
     return number
 
 
+def place_of(text: str) -> tuple[str, int]:
+    """The address and port of ADDRESS:PORT."""
+    address, port = metrics.address_of(text)
+    return str(ipaddress.ip_address(address)), port
+
+
+def linger(text: str) -> int:
+    """A span up to a day, in whole seconds."""
+    span = int(text) if text.isdecimal() else int(retention.span(text))
+    if not 1 <= span <= 86400:
+        raise ValueError
+    return span
+
+
 def add_limits(one: argparse.ArgumentParser) -> None:
     one.add_argument("--keep", type=retention.span, metavar="TIME", help="how long runs are kept, as 90d or 12h; else until somebody removes them")
     one.add_argument("--keep-bytes", type=retention.size, metavar="SIZE", help="how much all runs may have together, as 20G, or a share of the disk, as 20%%")
@@ -93,13 +107,16 @@ def parser() -> Parser:
 
     one = commands.add_parser("run", help="run the proxy as a service: signals, systemd, and its journal")
     one.add_argument("conf", metavar="CONF")
-    one.add_argument("--port", type=whole(1, 65535), metavar="P", help="as of serve: the port")
+    place = one.add_mutually_exclusive_group()
+    place.add_argument("--port", type=whole(1, 65535), metavar="P", help="as of serve: the port, at all addresses")
+    place.add_argument("--listen", type=place_of, metavar="ADDRESS:PORT", help="listen at this address alone, as 10.1.2.3:3128 or [fd00::1]:3128")
     one.add_argument("--workers", type=whole(1, 4096), default=WORKERS, metavar="W", help=f"as of serve: connections that are served at a time ({WORKERS})")
     zone = one.add_mutually_exclusive_group()
     zone.add_argument("--utc-offset", type=whole(-840, 840), metavar="M", help="as of serve: minutes by which local time is ahead of UTC")
     zone.add_argument("--offset-from-zone", action="store_true", help="the offset of the machine's zone; a new run begins when it changes")
     one.add_argument("--journal", metavar="DIR", help="the folder of journals; else LOGS_DIRECTORY, STATE_DIRECTORY, or ./journal")
     one.add_argument("--grace", type=seconds, default=30.0, metavar="S", help="seconds that open connections have when it ends (30)")
+    one.add_argument("--linger", type=linger, default=run.LINGER, metavar="TIME", help="how long connections go on once a new run has begun, as 600s or 1h (1h)")
     one.add_argument("--run-bytes", type=whole(1, 1 << 30), default=run.RUN_BYTES, metavar="N", help="size at which a new run begins (768 MiB)")
     one.add_argument("--piece-lines", type=whole(1, 1 << 40), default=run.PIECE_LINES, metavar="N", help="lines of a piece (1000000)")
     one.add_argument("--no-access-log", action="store_true", help="have the program write no access log, where it can")
@@ -216,6 +233,8 @@ def run_command(words: argparse.Namespace) -> int:
                 access_log=not words.no_access_log,
                 access_bytes=words.access_log_bytes,
                 metrics=words.metrics,
+                listen=words.listen,
+                linger=words.linger,
             )
         )
     if words.command == "prune":

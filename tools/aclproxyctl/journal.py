@@ -1,5 +1,7 @@
 """Journals: pieces of a run in their order, lines, entries, and the requests in them. Memory is that of what is open."""
 
+import fcntl
+import functools
 import os
 import re
 import time
@@ -75,6 +77,21 @@ def whole_pieces(run: Path) -> list[Path]:
     return pieces
 
 
+def is_written(run: Path) -> bool:
+    """Whether a supervisor, or what it started, holds the run: each run's folder is locked for as long."""
+    try:
+        descriptor = os.open(run, os.O_RDONLY | os.O_DIRECTORY | os.O_CLOEXEC)
+    except OSError:
+        return True
+    try:
+        fcntl.flock(descriptor, fcntl.LOCK_SH | fcntl.LOCK_NB)
+        return False
+    except OSError:
+        return True
+    finally:
+        os.close(descriptor)
+
+
 def runs_of(folder: Path) -> list[Path]:
     """The runs of a folder of journals, oldest first: itself, if it is one, else the folders in it that have pieces."""
     if pieces_of(folder):
@@ -143,29 +160,55 @@ def lines_of_files(paths: list[Path], tail: Tail) -> Iterator[bytes]:
 def lines_following(
     runs: Callable[[], list[Path]], stop: Callable[[], bool] = lambda: False, pause: float = 0.2, files: Callable[[Path], list[Path]] = pieces_of
 ) -> Iterator[tuple[Path, Optional[bytes]]]:
-    """The lines of the last run and of those that follow it, for as long as they come. None stands where nothing came for a moment."""
-    run: Optional[Path] = None
+    """The lines of the last run and of those that follow it, for as long as they come: a run begins before the one that it follows has ended.
+    None stands where nothing came for a moment.
+    """
+    last: Optional[Path] = None
+    read: dict[Path, Iterator[Optional[bytes]]] = {}
     while not stop():
         known = runs()
-        later = [path for path in known if run is None or path.name > run.name]
-        if not later:
-            yield (run or Path(), None)
+        for run in known[-1:] if last is None else [path for path in known if path.name > last.name]:
+            last = run
+            read[run] = steps_of_run(run, functools.partial(is_followed, run, runs), files)
+        quiet = True
+        for run, lines in list(read.items()):
+            for line in lines:
+                if line is None:
+                    break
+                quiet = False
+                yield (run, line)
+                if stop():
+                    return
+            else:
+                del read[run]
+        if quiet:
+            yield (last or Path(), None)
             time.sleep(pause)
-            continue
-        run = later[-1] if run is None else later[0]
-        yield from lines_of_run(run, runs, stop, pause, files)
 
 
-def lines_of_run(
-    run: Path, runs: Callable[[], list[Path]], stop: Callable[[], bool], pause: float, files: Callable[[Path], list[Path]] = pieces_of
-) -> Iterator[tuple[Path, Optional[bytes]]]:
-    """The lines of a run as they come, up to where it has no more and a later run has begun."""
+def is_followed(run: Path, runs: Callable[[], list[Path]]) -> bool:
+    """Whether a later run has begun, and this one has ended."""
+    return any(path.name > run.name for path in runs()) and not is_written(run)
+
+
+def lines_of_run(run: Path, stop: Callable[[], bool], pause: float, files: Callable[[Path], list[Path]] = pieces_of) -> Iterator[Optional[bytes]]:
+    """The lines of a run as they come. None stands where nothing came for a moment."""
+    for line in steps_of_run(run, lambda: False, files):
+        if stop():
+            return
+        yield line
+        if line is None:
+            time.sleep(pause)
+
+
+def steps_of_run(run: Path, has_ended: Callable[[], bool], files: Callable[[Path], list[Path]] = pieces_of) -> Iterator[Optional[bytes]]:
+    """The lines of a run as they come, and None where there is none yet, up to where it has no more since it was found to have ended."""
     place = 0
     rest = b""
-    later = False
+    ended = False
     file: Optional[BinaryIO] = None
     try:
-        while not stop():
+        while True:
             pieces = files(run)
             if file is None and place < len(pieces):
                 file = open_piece(pieces[place])
@@ -173,7 +216,7 @@ def lines_of_run(
             if line:
                 rest += line
                 if rest.endswith(b"\n"):
-                    yield (run, rest[:-1])
+                    yield rest[:-1]
                     rest = b""
                 continue
             if file is not None and place + 1 < len(files(run)):
@@ -183,12 +226,10 @@ def lines_of_run(
                 file = None
                 place += 1
                 continue
-            if later:
-                # Nothing came since a later run was seen, which begins once this one has ended.
+            if ended:
                 return
-            later = any(path.name > run.name for path in runs())
-            yield (run, None)
-            time.sleep(pause)
+            ended = has_ended()
+            yield None
     finally:
         if file is not None:
             file.close()

@@ -9,7 +9,7 @@ import time
 from dataclasses import dataclass, field
 from datetime import datetime, timedelta
 from pathlib import Path
-from typing import Iterator, Optional, TextIO, Union
+from typing import Callable, Iterator, Optional, TextIO, Union
 
 from aclproxyctl.access import TUNNEL, Access, Odd, access_files, accesses, host_of, is_access_log, is_host, parse
 from aclproxyctl.confs import Conf, read
@@ -25,6 +25,7 @@ from aclproxyctl.journal import (
     lines_following,
     lines_of_files,
     lines_of_run,
+    pieces_of,
     runs_at,
     runs_of,
     shown,
@@ -181,12 +182,15 @@ def text_of(request: Request, rules: Optional[Rules]) -> str:
 
 @dataclass
 class Source:
-    """A journal: what it is called, its pieces, the configuration of its start, where that is known, and its access log."""
+    """A journal: what it is called, its pieces, the configuration of its start, where that is known, its access log, and when it began, by
+    its name.
+    """
 
     name: str
     pieces: list[Path]
     first: Optional[bytes]
     access: list[Path] = field(default_factory=list)
+    begun: Optional[int] = None
 
 
 class Decisions:
@@ -228,12 +232,23 @@ def text_of_access(access: Access, decisions: Optional[Decisions]) -> str:
     return f"{access.text} {decisions.text(check) if check else 'unjudged'}\n"
 
 
+def last_written(run: Path) -> float:
+    """When something was written last to the journal or the access log of a run, in milliseconds."""
+    found = 0.0
+    for file in [*pieces_of(run), *access_files(run)]:
+        try:
+            found = max(found, file.stat().st_mtime * 1000)
+        except OSError:
+            continue
+    return found
+
+
 def since_then(runs: list[Path], since: Optional[int]) -> list[Path]:
-    """The runs but those that had ended before a moment, since the one behind them had begun."""
+    """The runs but those that had ended before a moment: the one behind them had begun, and nothing was written any more."""
     kept = []
     for place, run in enumerate(runs):
         follows = started(runs[place + 1]) if place + 1 < len(runs) else None
-        if since is None or follows is None or follows > since:
+        if since is None or follows is None or follows > since or last_written(run) >= since:
             kept.append(run)
     return kept
 
@@ -244,7 +259,7 @@ def sources_of(named: str, conf: Optional[str], since: Optional[int]) -> list[So
     path = Path(named)
     if path.is_dir():
         runs = since_then(runs_at(named), since)
-        return [Source(str(run), whole_pieces(run), given if given is not None else kept_conf(run), access_files(run)) for run in runs]
+        return [Source(str(run), whole_pieces(run), given if given is not None else kept_conf(run), access_files(run), started(run)) for run in runs]
     if path.exists():
         return [Source(named, [], given, [path]) if path.is_file() and is_access_log(path) else Source(named, [path], given)]
     raise UserError(MISSING, f"{named}: there is no such file or folder")
@@ -286,21 +301,46 @@ def tell_odd(odd: Odd) -> None:
 def lines_of(sources: list[Source], choice: Choice, rule: bool, cuts: list[UserError]) -> Iterator[tuple[int, str]]:
     """The lines of journals that follow one another, each with its moment; where one is cut, its error is put to the others."""
     odd = Odd()
-    for source in sources:
-        tail = Tail()
-        if source.access:
-            decisions = Decisions(source.name, lines_of_files(source.pieces, tail), source.first) if rule else None
-            for access in chosen_accesses(source, choice, odd):
-                yield access.moment, text_of_access(access, decisions)
-            continue
-        if choice.needs_access_log:
-            continue
-        rules = Rules(source.first) if rule else None
-        for request in chosen(source, choice, rules, tail):
-            yield request.taken, text_of(request, rules)
-        if tail.cut:
-            cuts.append(cut_error(source.name, tail.cut))
+    yield from in_turn(sources, lambda source: lines_of_source(source, choice, rule, cuts, odd))
     tell_odd(odd)
+
+
+def in_turn(sources: list[Source], lines: Callable[[Source], Iterator[tuple[int, str]]]) -> Iterator[tuple[int, str]]:
+    """The lines of runs by their moments: a run may begin before the one before it has ended. One is opened once its beginning is reached."""
+    waiting = sources[::-1]
+    # The next line of each run that is open, with the run's place, so that lines are compared by no more than that.
+    open_: list[tuple[int, int, str, Iterator[tuple[int, str]]]] = []
+    while waiting or open_:
+        if waiting and (not open_ or waiting[-1].begun is None or waiting[-1].begun <= open_[0][0]):
+            place, found = len(sources) - len(waiting), lines(waiting.pop())
+            line = next(found, None)
+            if line is not None:
+                heapq.heappush(open_, (line[0], place, line[1], found))
+            continue
+        moment, place, text, found = open_[0]
+        yield moment, text
+        line = next(found, None)
+        if line is None:
+            heapq.heappop(open_)
+        else:
+            heapq.heapreplace(open_, (line[0], place, line[1], found))
+
+
+def lines_of_source(source: Source, choice: Choice, rule: bool, cuts: list[UserError], odd: Odd) -> Iterator[tuple[int, str]]:
+    """The lines of one journal."""
+    tail = Tail()
+    if source.access:
+        decisions = Decisions(source.name, lines_of_files(source.pieces, tail), source.first) if rule else None
+        for access in chosen_accesses(source, choice, odd):
+            yield access.moment, text_of_access(access, decisions)
+        return
+    if choice.needs_access_log:
+        return
+    rules = Rules(source.first) if rule else None
+    for request in chosen(source, choice, rules, tail):
+        yield request.taken, text_of(request, rules)
+    if tail.cut:
+        cuts.append(cut_error(source.name, tail.cut))
 
 
 def log(out: TextIO, named: list[str], choice: Choice, rule: bool, conf: Optional[str]) -> int:
@@ -335,15 +375,15 @@ def follow(out: TextIO, names: list[str], choice: Choice, rule: bool, conf: Opti
         lines = lines_following(lambda: runs_of(path))
     else:
         lines = lines_of_growing(path)
-    last: Optional[Path] = None
+    known: dict[Path, tuple[Reader, Requests, Optional[Rules]]] = {}
     for run, line in lines:
         if line is None:
             out.flush()
             continue
-        if run != last:
-            last = run
-            reader, requests = Reader(str(run), OF_REQUESTS), Requests(str(run))
-            rules = Rules(given if given is not None else kept_conf(run)) if rule else None
+        if run not in known:
+            first = Rules(given if given is not None else kept_conf(run)) if rule else None
+            known[run] = (Reader(str(run), OF_REQUESTS), Requests(str(run)), first)
+        reader, requests, rules = known[run]
         entry = reader.entry(line)
         if entry is None:
             continue
@@ -357,26 +397,23 @@ def follow(out: TextIO, names: list[str], choice: Choice, rule: bool, conf: Opti
 
 def follow_accesses(out: TextIO, path: Path, choice: Choice, rule: bool, given: Optional[bytes]) -> int:
     """The same over an access log."""
-    last: Optional[Path] = None
-    decisions: Optional[Decisions] = None
+    known: dict[Path, Decisions] = {}
     lines = lines_following(lambda: runs_of(path), files=access_files) if path.is_dir() else lines_of_growing(path)
     for run, line in lines:
         if line is None:
             out.flush()
             continue
-        if run != last:
-            last = run
-            if rule and path.is_dir():
-                decisions = Decisions(str(run), lines_so_far(run), given if given is not None else kept_conf(run))
+        if run not in known and rule and path.is_dir():
+            known[run] = Decisions(str(run), lines_so_far(run), given if given is not None else kept_conf(run))
         access = parse(line.decode("latin-1"))
         if access is not None and choice.has_access(access):
-            out.write(text_of_access(access, decisions))
+            out.write(text_of_access(access, known.get(run)))
     return DONE
 
 
 def lines_so_far(run: Path) -> Iterator[bytes]:
     """The lines of a run that grows, and an empty one, which is no entry, where nothing came for a moment."""
-    for _, line in lines_of_run(run, lambda: [], lambda: False, JOURNAL_PAUSE):
+    for line in lines_of_run(run, lambda: False, JOURNAL_PAUSE):
         yield line or b""
 
 

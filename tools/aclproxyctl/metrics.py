@@ -49,25 +49,39 @@ class Collector:
         self.told = told
         self.counts = Counts()
         self.watched: Optional[Watched] = None
+        # Runs that began before it and have not ended.
+        self.before: list[Watched] = []
         self.lock = threading.Lock()
 
+    def all(self) -> list[Watched]:
+        return [*self.before, *([self.watched] if self.watched is not None else [])]
+
     def watch(self, run: Path) -> None:
-        """A run begins; what the one before has left is counted."""
+        """A run begins; the one before is read on until it ends."""
         with self.lock:
-            if self.watched is not None:
-                self.watched.update()
-                self.watched.close()
+            self.before = self.all()
             self.watched = Watched(run, self.counts)
+
+    def ended(self, run: Path) -> None:
+        """A run has ended; what it has left is counted. Where it is the last one to have begun, the one before is the last from now on."""
+        with self.lock:
+            for one in [one for one in self.all() if one.run == run]:
+                one.update()
+                one.close()
+                if one is not self.watched:
+                    self.before.remove(one)
+                elif self.before:
+                    self.watched = self.before.pop()
 
     def close(self) -> None:
         with self.lock:
-            if self.watched is not None:
-                self.watched.close()
+            for one in self.all():
+                one.close()
 
     def update(self) -> None:
         with self.lock:
-            if self.watched is not None:
-                self.watched.update()
+            for one in self.all():
+                one.update()
 
     def describe(self) -> list["Metric"]:
         """None in advance: a registry would collect all of them to know their names."""
@@ -77,7 +91,8 @@ class Collector:
         with self.lock:
             if self.watched is None:
                 return
-            self.watched.update()
+            for one in self.all():
+                one.update()
             found = [*self.of_journal(self.watched), *self.of_access_log(self.watched), *self.of_process(self.watched), *self.of_supervisor()]
         yield from found
 
@@ -85,6 +100,7 @@ class Collector:
         from prometheus_client.core import CounterMetricFamily, GaugeMetricFamily
 
         counts, state = self.counts, watched.state
+        states = [one.state for one in self.all()]
         requests = CounterMetricFamily("aclproxy_requests", "Requests that were judged, by outcome and what decided.", labels=["outcome", "by", "rule"])
         for (outcome, by, rule), count in sorted(counts.outcomes.items()):
             requests.add_metric([outcome, by, rule], count)
@@ -92,9 +108,9 @@ class Collector:
         yield counter("aclproxy_faults", "Denials because a helper gave no answer, by cause.", "cause", counts.faults)
         yield CounterMetricFamily("aclproxy_requests_dropped", "Requests whose connection closed before they were judged.", counts.dropped)
         yield CounterMetricFamily("aclproxy_connections_opened", "Connections of clients that a worker took.", counts.opened)
-        yield GaugeMetricFamily("aclproxy_connections_open", "Connections of clients that a worker serves.", len(state.clients))
-        yield GaugeMetricFamily("aclproxy_checks_open", "Requests that are not judged yet.", len(state.waiting))
-        yield GaugeMetricFamily("aclproxy_checks_waiting", "Requests that wait for a helper.", sum(state.waiting.values()))
+        yield GaugeMetricFamily("aclproxy_connections_open", "Connections of clients that a worker serves.", sum(len(one.clients) for one in states))
+        yield GaugeMetricFamily("aclproxy_checks_open", "Requests that are not judged yet.", sum(len(one.waiting) for one in states))
+        yield GaugeMetricFamily("aclproxy_checks_waiting", "Requests that wait for a helper.", sum(sum(one.waiting.values()) for one in states))
         yield counter("aclproxy_helper_questions", "Questions that were sent to helpers.", "class", counts.questions)
         replies = CounterMetricFamily("aclproxy_helper_replies", "Lines of helpers: ok, err, bh, bad or stray.", labels=["class", "result"])
         for (name, result), count in sorted(counts.replies.items()):
@@ -102,7 +118,7 @@ class Collector:
         yield replies
         yield histogram("aclproxy_helper_reply_seconds", "Time from a question to its reply.", "class", counts.waits)
         alive: dict[str, int] = {}
-        for word in state.helpers.values():
+        for word in [word for one in states for word in one.helpers.values()]:
             alive[word_of(word)] = alive.get(word_of(word), 0) + 1
         processes = GaugeMetricFamily("aclproxy_helper_processes", "Helper processes that live.", labels=["class"])
         for name, count in sorted(alive.items()):

@@ -1,5 +1,6 @@
 """What systemd is told of a service, over the socket that NOTIFY_SOCKET names."""
 
+import array
 import os
 import socket
 import time
@@ -23,6 +24,22 @@ class Notifier:
                 to.sendto("\n".join(lines).encode(), self.address)
         except OSError:
             pass
+
+    def keep(self, descriptor: int, name: str) -> bool:
+        """Asks systemd to keep a file while the service starts anew, under a name. Whether it was asked; it does so as far as its unit says."""
+        if not self.address:
+            return False
+        try:
+            with socket.socket(socket.AF_UNIX, socket.SOCK_DGRAM | socket.SOCK_CLOEXEC) as to:
+                files = [(socket.SOL_SOCKET, socket.SCM_RIGHTS, array.array("i", [descriptor]))]
+                to.sendmsg([f"FDSTORE=1\nFDNAME={name}".encode()], files, 0, self.address)
+            return True
+        except OSError:
+            return False
+
+    def forget(self, name: str) -> None:
+        """Systemd keeps the file of this name no longer."""
+        self.tell("FDSTOREREMOVE=1", f"FDNAME={name}")
 
     def ready(self, status: str) -> None:
         self.tell("READY=1", f"STATUS={status}", f"MAINPID={os.getpid()}")

@@ -1,6 +1,5 @@
 """Retention: finished runs are compressed, and old ones are removed, oldest first, but never a run that is still written."""
 
-import fcntl
 import os
 import re
 import shutil
@@ -13,7 +12,7 @@ from typing import Callable, Optional, TextIO
 from aclproxyctl import words
 from aclproxyctl.disk import size_in_words
 from aclproxyctl.errors import DONE, UserError
-from aclproxyctl.journal import runs_at, started
+from aclproxyctl.journal import is_written, runs_at, started
 from aclproxyctl.packed import UNFINISHED, never, pack
 
 # What is compressed of a run.
@@ -94,21 +93,6 @@ class Swept:
     packed: int = 0
     kept: int = 0
     bytes: int = 0
-
-
-def is_written(run: Path) -> bool:
-    """Whether a supervisor, or what it started, holds the run: each run's folder is locked for as long."""
-    try:
-        descriptor = os.open(run, os.O_RDONLY | os.O_DIRECTORY | os.O_CLOEXEC)
-    except OSError:
-        return True
-    try:
-        fcntl.flock(descriptor, fcntl.LOCK_SH | fcntl.LOCK_NB)
-        return False
-    except OSError:
-        return True
-    finally:
-        os.close(descriptor)
 
 
 def runs_found(folder: Path) -> list[Found]:

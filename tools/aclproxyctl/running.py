@@ -24,6 +24,7 @@ from aclproxyctl.appended import Appended, Left
 from aclproxyctl.errors import NEEDS, UserError
 from aclproxyctl.helper_errors import VARIABLE, helper_errors
 from aclproxyctl.journal import KEPT_CONF, pieces_of, started
+from aclproxyctl.listening import Port
 from aclproxyctl.retention import Limits
 from aclproxyctl.service import DEFAULT_WORKERS, SERVICE, Service
 from aclproxyctl.sockets import clients_of
@@ -41,6 +42,11 @@ HELPER_ERRORS = "helpers.err"
 # The file to which `serve` writes what it has to say to its administrator after its start, and the variable that names it.
 MESSAGES = "messages"
 MESSAGES_VARIABLE = "ACLPROXY_MESSAGES"
+# The variable that tells `serve` for how many seconds connections go on once it was ordered to end.
+LINGER_VARIABLE = "ACLPROXY_LINGER"
+LINGER = 3600
+# The statuses of a shell whose program cannot be run.
+NOT_STARTED = (126, 127)
 
 
 @dataclass(frozen=True)
@@ -63,6 +69,10 @@ class Options:
     access_bytes: int = ACCESS_BYTES
     # The host and port at which metrics are served.
     metrics: Optional[tuple[str, int]] = None
+    # The one address and the port at which clients come; else `port` of all addresses.
+    listen: Optional[tuple[str, int]] = None
+    # For how many seconds the connections of a run go on once a new run has begun.
+    linger: int = LINGER
 
 
 def say(text: str) -> None:
@@ -102,9 +112,9 @@ def new_folder(journal: Path) -> Path:
             moment += timedelta(milliseconds=1)
 
 
-def is_anybody_connected(port: int) -> bool:
-    """Whether a connection to this port is open; where the system does not tell, somebody may be."""
-    clients = clients_of(port)
+def is_anybody_connected(port: int, process: int) -> bool:
+    """Whether a connection of this process to this port is open; where the system does not tell, somebody may be."""
+    clients = clients_of(port, process)
     return clients is None or clients.connected > 0
 
 
@@ -122,7 +132,7 @@ def refusal_in(piece: Path) -> str:
 class Run:
     """One run: a `serve`, the `split` that writes its journal, and its folder."""
 
-    def __init__(self, options: Options, source: bytes) -> None:
+    def __init__(self, options: Options, source: bytes, port: Port) -> None:
         self.folder = new_folder(Path(options.journal))
         # Who removes or compresses runs passes over one that is locked. `split` holds the lock, too, should the supervisor be killed.
         self.lock = os.open(self.folder, os.O_RDONLY | os.O_DIRECTORY | os.O_CLOEXEC)
@@ -132,8 +142,9 @@ class Run:
         self.offset = zone_offset() if options.from_zone else options.offset
         write_new(self.folder / KEPT_CONF, source)
         write_new(self.folder / CURRENT_CONF, source)
-        command = [options.program, "serve", str(self.folder / CURRENT_CONF)]
-        for name, value in (("--port", options.port), ("--workers", options.workers), ("--utc-offset", self.offset)):
+        # The port is that of the socket that it is handed.
+        command = [options.program, "serve", str(self.folder / CURRENT_CONF), "--port", str(port.port)]
+        for name, value in (("--workers", options.workers), ("--utc-offset", self.offset)):
             if value is not None:
                 command += [name, str(value)]
         split = shutil.which("split")
@@ -148,13 +159,14 @@ class Run:
         )
         assert self.split.stdin is not None
         env = {**os.environ, VARIABLE: str(self.errors.path.absolute()), MESSAGES_VARIABLE: str(self.messages.path.absolute())}
+        env.update({"LISTEN_FDS": "1", LINGER_VARIABLE: str(options.linger)})
         self.access = AccessLog(self.folder, options.access_bytes) if options.access_log else None
         if self.access is not None:
             env[ACCESS_VARIABLE] = str(self.access.path.absolute())
         try:
             self.serve = subprocess.Popen(
-                command, stdin=subprocess.PIPE, stdout=subprocess.PIPE, stderr=self.split.stdin, start_new_session=True,
-                env=env,
+                port.command(command), stdin=subprocess.PIPE, stdout=subprocess.PIPE, stderr=self.split.stdin, start_new_session=True,
+                env=env, pass_fds=(port.descriptor,),
             )
         except OSError as fault:
             self.split.kill()
@@ -163,9 +175,8 @@ class Run:
             # From here on `serve` alone has this end of the pipe.
             self.split.stdin.close()
         assert self.serve.stdin is not None and self.serve.stdout is not None
-        self.orders = self.serve.stdin.fileno()
         self.output = self.serve.stdout.fileno()
-        os.set_blocking(self.orders, False)
+        os.set_blocking(self.serve.stdin.fileno(), False)
         os.set_blocking(self.output, False)
         self.rest = b""
         self.last = ""
@@ -189,8 +200,11 @@ class Run:
 
     def order(self, line: bytes) -> None:
         """Hands `serve` an order. One that is gone has none; a pipe that is full holds more than enough."""
+        assert self.serve.stdin is not None
+        if self.serve.stdin.closed:
+            return
         try:
-            os.write(self.orders, line + b"\n")
+            os.write(self.serve.stdin.fileno(), line + b"\n")
         except OSError:
             pass
 
@@ -229,9 +243,16 @@ class Run:
         return total
 
     def shut_down(self) -> None:
+        """It lets nobody in any more, and its connections go on for as long as runs linger."""
         if self.asked_at is None:
             self.asked_at = time.monotonic()
             self.order(b"shutdown")
+
+    def leave(self) -> None:
+        """The same, but its connections go on for half a minute at most: nobody has the other end of its orders any more."""
+        self.shut_down()
+        assert self.serve.stdin is not None
+        self.serve.stdin.close()
 
     def kill(self) -> None:
         """Ends it at once; a second time, by the signal that none can withstand."""
@@ -265,7 +286,7 @@ class Run:
         if not self.listening:
             pieces = pieces_of(self.folder)
             self.refusal = refusal_in(pieces[0]) if pieces else ""
-            if not pieces or self.refusal:
+            if not pieces or self.refusal or status in NOT_STARTED:
                 # It has not begun: there is nothing to keep.
                 shutil.rmtree(self.folder, ignore_errors=True)
         return status

@@ -110,6 +110,12 @@ def rows_of_service(run: Path) -> tuple[tuple[str, str], ...]:
     )
 
 
+def rows_of_others(named: Path, run: Path) -> tuple[tuple[str, str], ...]:
+    """The runs before this one whose connections go on."""
+    others = [one.name for one in runs_at(str(named)) if one != run and service_of(one) is not None] if named.is_dir() else []
+    return (("before it", f"connections of {words.plural(len(others), 'run')} go on: {', '.join(others)}"),) if others else ()
+
+
 def tell(out: TextIO, name: str, state: State, size: int, pieces: int, cut: int, service: tuple[tuple[str, str], ...]) -> None:
     waiting = sum(state.waiting.values())
     by_class: dict[str, int] = {}
@@ -147,5 +153,5 @@ def status(out: TextIO, named: str) -> int:
         raise UserError(MISSING, f"{named}: there is no such file or folder")
     tail = Tail()
     state = state_of(str(run), lines_of_files(pieces, tail))
-    tell(out, str(run), state, tail.bytes, len(pieces), len(tail.cut), rows_of_service(run))
+    tell(out, str(run), state, tail.bytes, len(pieces), len(tail.cut), (*rows_of_service(run), *rows_of_others(path, run)))
     return DONE

@@ -152,7 +152,7 @@ class Logged(InFolder):
         """Their lines come from the journal, which cannot say what failed."""
         self.file("runs/20251128T004321.000Z/journal.000000", OTHER_JOURNAL)
         ended = ctl("log", self.run_folder())
-        self.assertEqual(ended.out.splitlines(), OTHER_LINES + LINES)
+        self.assertEqual(ended.out.splitlines(), sorted(OTHER_LINES + LINES, key=lambda line: float(line.split()[0])))
         ended = ctl("log", "--failed", str(self.folder / "runs"))
         self.assertEqual((ended.status, ended.out.splitlines()), (0, [LINES[3], LINES[5]]))
         self.assertIn("it has no access log, and a journal does not have what came of a request; so for 1 of 2 runs", ended.err)

@@ -6,6 +6,7 @@ from typing import Optional, cast
 from unittest import mock
 
 from aclproxyctl.clock import ClockWatch
+from aclproxyctl.listening import Port
 from aclproxyctl.run import Options, Run, Supervisor
 from tests.common import TOP, InFolder
 
@@ -120,7 +121,8 @@ class Watch(unittest.TestCase):
 class Renewal(InFolder):
     def test_a_new_run_begins(self) -> None:
         conf = self.file("conf", "http_access deny all\n")
-        supervisor = Supervisor(Options("none", conf, str(self.folder), None, None, None, False, 1.0))
+        options = Options("none", conf, str(self.folder), None, None, None, False, 1.0)
+        supervisor = Supervisor(options, b"http_access deny all\n", cast(Port, mock.Mock()))
         run = cast(Run, mock.Mock(port=1, bytes=lambda: 100))
         self.assertIsNone(supervisor.renewal(run))
         supervisor.watch.ahead -= 5.0

@@ -128,12 +128,30 @@ class Log(InFolder):
         self.assertIn(" rule 1: http_access deny a\n", ctl("log", "--rule", folder).out)
 
     def test_runs_that_had_ended(self) -> None:
-        """A run is passed over where the next one began before the moment."""
+        """A run is passed over where the next one began before the moment, and nothing was written to it since."""
         folder = self.run_folder()
-        self.file("runs/20251128T000000.000Z/journal.000000", "no journal\n")
+        old = self.file("runs/20251128T000000.000Z/journal.000000", "no journal\n")
+        os.utime(old, (1764374390, 1764374390))
         # 1764374400 is 2025-11-29 00:00:00 UTC, when the second run began.
         self.assertEqual(ctl("log", "--since", "1764374400", folder).out.splitlines(), LINES)
         self.assertEqual(ctl("log", "--since", "1764374399", folder).status, 72)
+        os.utime(old, (1764374460, 1764374460))
+        self.assertEqual(ctl("log", "--since", "1764374460", folder).status, 72)
+        self.assertEqual(ctl("log", "--since", "1764374461", folder).out.splitlines(), LINES)
+
+    def test_runs_that_overlap(self) -> None:
+        """Their lines stand in the order of their moments, and each keeps the rules of its own run."""
+        folder = self.folder / "runs"
+        for name, moments in (("20251129T000000.000Z", (1764374400100, 1764374403000)), ("20251129T000002.000Z", (1764374402500, 1764374404000))):
+            events = ["begin 0 => epoch 1"]
+            for one in (1, 2):
+                events += [f"open {one} 10.0.0.{one} 1 => ok", f"ask {one} GET http://a/{one} => check {one}", f"step {one} => done"]
+                events += [f"take {one} => epoch 1 denied rule 1"]
+            lines = ["journal 2", *(f"{at} 1 {moments[at > 5]} {event}" for at, event in enumerate(events, 1))]
+            self.file(f"runs/{name}/journal.000000", "\n".join([*lines, ""]))
+            self.file(f"runs/{name}/squid.conf", f"http_access deny all # {name}\n")
+        said = [line.split()[0] for line in ctl("log", str(folder)).out.splitlines()]
+        self.assertEqual(said, ["1764374400.100", "1764374402.500", "1764374403.000", "1764374404.000"])
 
     def test_bad_input(self) -> None:
         self.no_traceback(ctl("log", str(self.folder / "none")), 66, "there is no such file or folder")

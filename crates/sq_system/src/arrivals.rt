@@ -139,6 +139,15 @@ impl Arrivals {
         });
     }
 
+    /// Waits until one of these says something, for so long at the most.
+    pub(crate) fn wait_for_words(&mut self, most: Duration) {
+        self.entries.clear();
+        for one in self.waiting.iter() {
+            let _ = self.entries.push(one.entry());
+        }
+        ready::wait(self.entries.as_mut_slice(), Some(most));
+    }
+
     /// Entries of the listener's socket and of all clients, for `poll`. The first is the listener's.
     pub(crate) fn list(&self, listener: &TcpListener, entries: &mut Vec<pollfd>) {
         entries.clear();

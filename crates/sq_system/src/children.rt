@@ -118,11 +118,8 @@ impl<R: Wait + Clock, P: OpenProcess<Stdin = ChildStdin> + Drop> RealChildOut<R,
     // How long an answer may be owed.
     fn limit(&self) -> Duration {
         match &self.house {
-            Some(house) => match house.since_stop(&self.rt) {
-                Some(passed) if passed >= self.times.answer_end => self.times.answer_end,
-                _ => self.times.answer,
-            },
-            None => self.times.answer,
+            Some(house) if house.ends_helpers(&self.rt, &self.times) => self.times.answer_end,
+            _ => self.times.answer,
         }
     }
 
@@ -351,10 +348,7 @@ impl<R: Clock> RealSpawner<R> {
     // Whether the server was stopped too long ago for more processes.
     fn is_over(&self) -> bool {
         match &self.house {
-            Some(house) => match house.since_stop(&self.rt) {
-                Some(passed) => passed >= self.times.answer_end,
-                None => false,
-            },
+            Some(house) => house.ends_helpers(&self.rt, &self.times),
             None => false,
         }
     }

@@ -3,7 +3,8 @@
 //! While a worker waits for a client nobody waits for a worker, and the doorkeeper sleeps. While none does it waits for clients at the
 //! listener's socket, takes them into the accept queue, and sees who has said something. Where such a client has been there at two
 //! looks it makes one link give way to it: it shuts the sockets of the client and of what was dialled for it, which wakes the threads that
-//! wait there. Once the server is stopped it ends the links that are silent, and at last all.
+//! wait there. Once the server is stopped it ends the links that are silent, and at last all. Where other servers have the listener's socket,
+//! too, clients that it let in before are served yet.
 //!
 //! All of this runs in this one thread. It takes the lock of the accept queue only where nobody has it, and never holds it while it
 //! waits. It touches no link but by `shutdown`, and reads what their threads note of them.
@@ -136,17 +137,27 @@ impl Doorkeeper {
         }
     }
 
+    // Once the server is stopped: whether links go on for longer than usual. They do only while somebody can give orders.
+    fn lingers(&self, rt: &impl Clock, house: &House) -> bool {
+        if !self.times.linger() || house.is_left() {
+            return false;
+        }
+        if ready::is_input_left() {
+            house.set_left(rt);
+            return false;
+        }
+        true
+    }
+
     // Once the server is stopped: ends the links that are silent, and in the end all.
     fn end_links(&mut self, rt: &impl Clock, house: &House) {
         house.seats.copy_into(&mut self.slots);
         let now = now(rt);
-        let is_over = match house.since_stop(rt) {
-            Some(passed) => passed >= self.times.end,
-            None => false,
-        };
+        let lingers = self.lingers(rt, house);
+        let is_over = house.ends_links(rt, &self.times);
         for slot in self.slots.iter() {
             if let Some(served) = slot.served() {
-                if is_over || served.is_silent(now, self.times.ending) {
+                if is_over || served.ends_early(now, &self.times, lingers) {
                     served.end();
                 }
             }
@@ -166,11 +177,15 @@ impl Doorkeeper {
         tell_full(&mut self.messages, self.alloc, workers, waiting);
     }
 
-    // Looks around where no worker waits. The accept queue is locked.
+    // Looks around where no worker waits. The accept queue is locked. Once the server is stopped nobody is let in any more.
     fn look(&mut self, rt: &impl Clock, house: &House, queue: &mut Arrivals) {
         let now = now(rt);
-        self.let_in(queue, now);
-        queue.look(now, now.saturating_sub(millis(self.times.silent)));
+        let mut silent = self.times.used;
+        if !house.is_stopped() {
+            self.let_in(queue, now);
+            silent = self.times.silent;
+        }
+        queue.look(now, now.saturating_sub(millis(silent)));
         let waiting = queue.count_speaking(now);
         house.set_wanting(waiting);
         if queue.count_speaking(now.saturating_sub(millis(self.times.full))) > 0 {
@@ -198,8 +213,9 @@ impl Doorkeeper {
     // Waits until clients come, or those of the queue say something, or it is time to drop some that say nothing. Where some wait
     // already it returns at once, and the next look is due after a moment anyhow.
     fn watch(&mut self, house: &House) {
-        let is_empty = self.entries.len() < 2;
-        let most = if is_empty {
+        let most = if house.is_shared() {
+            Some(self.times.round)
+        } else if self.entries.len() < 2 {
             None
         } else {
             Some(self.times.crowd)
@@ -217,6 +233,9 @@ impl Doorkeeper {
             }
             if house.is_stopped() {
                 self.end_links(rt, house);
+                if house.is_shared() {
+                    self.looks(rt, house);
+                }
             } else if self.looks(rt, house) {
                 self.watch(house);
             } else {

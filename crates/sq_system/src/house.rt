@@ -3,6 +3,7 @@
 
 use crate::arrivals::Arrivals;
 use crate::seats::{ClientSlot, ClientSlots};
+use crate::times::LinkTimes;
 use std::alloc::Global;
 use std::sync::atomic::{AtomicBool, AtomicU64, Ordering};
 use std::sync::{Arc, Mutex, Wait};
@@ -18,8 +19,12 @@ pub(crate) struct House {
     // The time when a link gave way last, and when the server was stopped; 0 is never.
     crowded: AtomicU64,
     stopped: AtomicU64,
+    // When it was seen, after that, that nobody can give orders any more.
+    left: AtomicU64,
     // Whether the listener is gone.
     closed: AtomicBool,
+    // Whether other servers have the listener's socket, too.
+    shared: bool,
     // How many clients that have said something waited for a worker when the doorkeeper looked last.
     wanting: AtomicU64,
     // How many workers there are, where this is known; else 0.
@@ -49,12 +54,14 @@ fn since(clock: &impl Clock, time: u64) -> Option<Duration> {
 }
 
 impl House {
-    /// Nothing was done yet.
-    pub(crate) fn new(alloc: Global) -> House {
+    /// Nothing was done yet, at a listener whose socket other servers have, too, or not.
+    pub(crate) fn new(alloc: Global, shared: bool) -> House {
         House {
             crowded: AtomicU64::new(0),
             stopped: AtomicU64::new(0),
+            left: AtomicU64::new(0),
             closed: AtomicBool::new(false),
+            shared,
             wanting: AtomicU64::new(0),
             workers: AtomicU64::new(0),
             queue: Mutex::new(Arrivals::new(alloc)),
@@ -84,9 +91,54 @@ impl House {
         self.stopped.load(Ordering::SeqCst) > 0
     }
 
-    /// How long ago the server was stopped, if it was.
-    pub(crate) fn since_stop(&self, clock: &impl Clock) -> Option<Duration> {
+    // How long ago the server was stopped, if it was.
+    fn since_stop(&self, clock: &impl Clock) -> Option<Duration> {
         since(clock, self.stopped.load(Ordering::SeqCst))
+    }
+
+    /// Nobody can give orders to the server any more, which is stopped. What goes on for longer than usual then comes to its usual end,
+    /// so that it outlives nobody who started the server.
+    pub(crate) fn set_left(&self, clock: &impl Clock) {
+        self.left.store(now(clock), Ordering::SeqCst);
+    }
+
+    /// Whether that is so.
+    pub(crate) fn is_left(&self) -> bool {
+        self.left.load(Ordering::SeqCst) > 0
+    }
+
+    // How long ago that was seen, if it was.
+    fn since_left(&self, clock: &impl Clock) -> Option<Duration> {
+        since(clock, self.left.load(Ordering::SeqCst))
+    }
+
+    /// Whether links are at their end, since the server was stopped too long ago.
+    pub(crate) fn ends_links(&self, clock: &impl Clock, times: &LinkTimes) -> bool {
+        match self.since_left(clock) {
+            Some(passed) if passed >= times.end.saturating_sub(times.longer) => return true,
+            _ => {}
+        }
+        match self.since_stop(clock) {
+            Some(passed) => passed >= times.end,
+            None => false,
+        }
+    }
+
+    /// Whether helpers have little time for an answer, and none is started, since the server was stopped.
+    pub(crate) fn ends_helpers(&self, clock: &impl Clock, times: &LinkTimes) -> bool {
+        match self.since_left(clock) {
+            Some(passed) if passed >= times.answer_end => return true,
+            _ => {}
+        }
+        match self.since_stop(clock) {
+            Some(passed) => passed.saturating_sub(times.longer) >= times.answer_end,
+            None => false,
+        }
+    }
+
+    /// Whether other servers have the listener's socket, too, so that it is not shut with this one.
+    pub(crate) fn is_shared(&self) -> bool {
+        self.shared
     }
 
     /// The listener is gone. The doorkeeper then ends.

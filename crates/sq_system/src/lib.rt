@@ -14,6 +14,7 @@ mod arrivals;
 mod children;
 mod dialling;
 mod doorkeeper;
+mod handed;
 mod hosts;
 mod house;
 mod lines;

@@ -272,10 +272,7 @@ impl<R: Clock> LinkWatch<R> {
     // Whether the server was stopped too long ago for links to go on.
     fn is_over(&self) -> bool {
         match &self.house {
-            Some(house) => match house.since_stop(&self.rt) {
-                Some(passed) => passed >= self.times.end,
-                None => false,
-            },
+            Some(house) => house.ends_links(&self.rt, &self.times),
             None => false,
         }
     }

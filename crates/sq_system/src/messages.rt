@@ -37,6 +37,14 @@ pub(crate) fn tell_full(messages: &mut Option<File>, alloc: Global, workers: u64
     }
 }
 
+/// Says that the time for which links go on once the server is stopped was not stated as it has to be.
+pub(crate) fn tell_linger(messages: &mut Option<File>) {
+    tell(
+        messages,
+        "ACLPROXY_LINGER is no number from 1 to 86400: links go on for 30 seconds after shutdown\n",
+    );
+}
+
 /// Says that fewer files can be open than so many workers may need, where that is so.
 pub(crate) fn tell_shortage<R: Files<File = File>>(
     rt: &R,

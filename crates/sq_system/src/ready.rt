@@ -59,6 +59,17 @@ fn millis(most: Duration) -> i32 {
     }
 }
 
+/// Whether standard input is a pipe whose other end nobody has open any more.
+pub(crate) fn is_input_left() -> bool {
+    let mut one = [pollfd {
+        fd: 0,
+        events: 0,
+        revents: 0,
+    }];
+    wait(&mut one, Some(Duration::ZERO));
+    one[0].revents & POLLHUP != 0
+}
+
 /// Waits until something is to be reported of one of these entries, for so long at the most, or without a limit.
 pub(crate) fn wait(entries: &mut [pollfd], most: Option<Duration>) {
     let timeout = match most {

@@ -5,7 +5,8 @@ ghost use Rattle.std.specs.Prelude.{◌≡◌, ◌≤◌, ◌-◌, ◌^◌, IfOk
 use crate::again::raise;
 use crate::children::RealSpawner;
 use crate::doorkeeper::KeeperPost;
-use crate::messages::{self, tell_shortage};
+use crate::handed::{Linger, handed_socket, is_socket_handed, linger_stated};
+use crate::messages::{self, tell_linger, tell_shortage};
 use crate::real_clock::RealClock;
 use crate::tcp_client::{RealDialer, RealResolver};
 use crate::tcp_server::{Listening, RealListener, RealStopper};
@@ -20,7 +21,8 @@ use std::sync::{Arc, Wait};
 use std::thread::Threads;
 use std::{io, time};
 
-/// The net of this machine. Where its port cannot be opened it says so on standard error: `aclproxy: port N: REASON`.
+/// The net of this machine. Where its port cannot be opened it says so on standard error: `aclproxy: port N: REASON`. Where the
+/// environment hands a socket to the program, that is the port, and the number only names it.
 #[derive(Drop)]
 pub struct RealNet<R> {
     rt: R,
@@ -59,13 +61,37 @@ impl<
 > RealNet<R> {
     ghost use Rattle.sq_system.specs.Adapters.{accept_faults};
 
+    // The limits of a server's links, as far as the environment says otherwise.
+    fn times(&self, messages: &mut Option<File>) -> LinkTimes {
+        let times = LinkTimes::of_server();
+        match linger_stated(&self.rt) {
+            Linger::Usual => times,
+            Linger::For(end) => times.with_end(end),
+            Linger::Faulty => {
+                tell_linger(messages);
+                times
+            }
+        }
+    }
+
+    // A listener over the socket that the environment hands to the program, or else at this port.
+    fn listen(&self, alloc: Global, port: u16, times: LinkTimes) -> io::Result<Listening<R>>
+        ensures fresh { IfOk result (λ l. accept_faults l.listener ≡ 0) }
+    {
+        if is_socket_handed(&self.rt) {
+            return RealListener::over(alloc, self.rt, handed_socket()?, times);
+        }
+        RealListener::listen(alloc, self.rt, port, times)
+    }
+
     // Opens the listener and what is beside it, and hands it to the doorkeeper.
     fn open(&self, alloc: Global, port: u16, workers: u32) -> io::Result<Listening<R>>
         ensures fresh { IfOk result (λ l. accept_faults l.listener ≡ 0) }
     {
-        let listening = RealListener::listen(alloc, self.rt, port, LinkTimes::of_server())?;
+        let mut messages = messages::opened(&self.rt);
+        let times = self.times(&mut messages);
+        let listening = self.listen(alloc, port, times)?;
         if let Some(post) = &self.post {
-            let mut messages = messages::opened(&self.rt);
             tell_shortage(&self.rt, &mut messages, alloc, workers);
             listening.listener.keep(alloc, post, workers, messages)?;
         }

@@ -80,8 +80,27 @@ impl ServedLinks {
         }
     }
 
+    // Whether this is a client's link between two requests, or before its first.
+    fn is_between(&self) -> bool {
+        self.origin.is_none() && self.client.is_between()
+    }
+
+    /// Whether it ends early where the server is stopped, since it is silent. Where links linger only a client's ends so that is between
+    /// two requests; one that has sent nothing yet has some seconds for it.
+    pub(crate) fn ends_early(&self, now: u64, times: &LinkTimes, lingers: bool) -> bool {
+        if !lingers {
+            return self.is_silent(now, times.ending);
+        }
+        let least = if self.client.is_used() {
+            times.ending
+        } else {
+            times.used
+        };
+        self.is_between() && self.is_silent(now, least)
+    }
+
     fn rank(&self) -> Rank {
-        if self.origin.is_none() && self.client.is_between() {
+        if self.is_between() {
             Rank::Between
         } else {
             Rank::Busy

@@ -1,6 +1,6 @@
 //! What accepts TCP links, and what stops it: the trusted edge. It relies on `accept` giving the links that
 //! come to the port, on a link from here being one of them, and on Linux: a socket that is accepted has the settings of the
-//! listener's, and an `accept` ends when its socket is shut.
+//! listener's, and an `accept` ends when its socket is shut, or when its socket's limit of time is over.
 ghost use Rattle.std.specs.Prelude.{◌≡◌, ◌≤◌, ◌-◌, ◌^◌, nat_lt, None, IfOk, IfSome};
 ghost use Rattle.sq_outside.specs.World.{IfLink};
 
@@ -80,7 +80,9 @@ impl<R: Drop> Drop for Entrance<R> {
             house,
         } = self;
         house.close();
-        let _ = TcpStream::from(OwnedFd::from(listener)).shutdown(Shutdown::Both);
+        if !house.is_shared() {
+            let _ = TcpStream::from(OwnedFd::from(listener)).shutdown(Shutdown::Both);
+        }
     }
 }
 
@@ -120,7 +122,23 @@ impl<R: Net<Listener = TcpListener, Stream = TcpStream> + Copy + Drop> RealListe
         let listener = bind(&rt, port)?;
         deepen(&listener);
         let socket = socket_of(&listener, times)?;
-        let keys = HouseKeys::new(alloc)?;
+        let keys = HouseKeys::new(alloc, false)?;
+        Ok(RealListener::opened(rt, listener, socket, times, keys))
+    }
+
+    /// The same over a socket that listens already, and that other servers have, too. It is never shut: once the server is stopped
+    /// this one leaves those who come to the others, and those that it let in before are served yet.
+    pub(crate) fn over(
+        alloc: Global,
+        rt: R,
+        listener: TcpListener,
+        times: LinkTimes,
+    ) -> io::Result<Listening<R>>
+        ensures fresh { IfOk result (λ l. accept_faults l.listener ≡ 0) }
+    {
+        let tick = times.round;
+        let socket = socket_of(&listener, LinkTimes { tick, ..times })?;
+        let keys = HouseKeys::new(alloc, true)?;
         Ok(RealListener::opened(rt, listener, socket, times, keys))
     }
 }
@@ -145,9 +163,9 @@ impl<R> RealListener<R> {
     }
 }
 
-// Gives the system's queue its depth. std makes it 128 deep, and the last call of `listen` counts.
-fn deepen(listener: &TcpListener) {
-    let _ = libc::net::listen(listener.as_raw_fd(), BACKLOG);
+// Gives the system's queue its depth. std makes it 128 deep, and the last call of `listen` counts. Whether it listens.
+pub(crate) fn deepen(listener: &TcpListener) -> bool {
+    libc::net::listen(listener.as_raw_fd(), BACKLOG) == 0
 }
 
 // Another handle of a listener's socket, which has its settings then.
@@ -167,8 +185,8 @@ struct HouseKeys {
 }
 
 impl HouseKeys {
-    fn new(alloc: Global) -> io::Result<HouseKeys> {
-        let entrance = Arc::new(alloc, House::new(alloc))?;
+    fn new(alloc: Global, shared: bool) -> io::Result<HouseKeys> {
+        let entrance = Arc::new(alloc, House::new(alloc, shared))?;
         let stopper = Arc::try_clone(&entrance)?;
         let dialer = Arc::try_clone(&entrance)?;
         let spawner = Arc::try_clone(&entrance)?;
@@ -239,13 +257,16 @@ fn is_lasting(error: &io::Error) -> bool {
 
 // All of this is called by the one worker that waits for a client, and holds the lock of the accept queue.
 impl<R: Clock> Entrance<R> {
-    // The next client of the system's queue. It blocks for a tick, and then until there is one.
+    // The next client of the system's queue. It blocks for a tick, and then until there is one, but where other servers have the socket,
+    // too: whom it wakes for may be theirs.
     fn accept(&self) -> NextLink {
         match self.listener.accept() {
             Ok((stream, peer)) => NextLink::Link(Arrival { stream, peer }),
             Err(e) if is_lasting(&e) => NextLink::Failed,
             Err(e) if is_tick(e.kind()) => {
-                ready::wait(&mut [ready::entry(&self.listener, PollFor::Read)], None);
+                if !self.house.is_shared() {
+                    ready::wait(&mut [ready::entry(&self.listener, PollFor::Read)], None);
+                }
                 NextLink::Nothing
             }
             Err(_) => {
@@ -265,7 +286,12 @@ impl<R: Clock> Entrance<R> {
 
     // Waits until a client comes or one says something, which the next call finds.
     fn gather(&self, queue: &mut Arrivals, now: u64) -> NextLink {
-        if !queue.wait(&self.listener, self.times.crowd) {
+        let most = if self.house.is_shared() {
+            self.times.round
+        } else {
+            self.times.crowd
+        };
+        if !queue.wait(&self.listener, most) {
             return NextLink::Nothing;
         }
         match self.accept() {
@@ -294,6 +320,33 @@ impl<R: Clock> Entrance<R> {
     }
 }
 
+impl<R: Clock> Entrance<R> {
+    // Whether clients that came before the server was stopped are served yet.
+    fn serves_last(&self) -> bool {
+        if !self.house.is_stopped() {
+            return true;
+        }
+        self.house.is_shared() && !self.house.ends_links(&self.rt, &self.times)
+    }
+
+    // The next of those that came before the server was stopped, once it has said something. Nothing where none is left.
+    fn find_last(&self, queue: &mut Arrivals) -> NextLink {
+        for _ in 0..u64::MAX {
+            if queue.is_empty() || !self.serves_last() {
+                break;
+            }
+            let now = now(&self.rt);
+            let silent = self.times.used.as_millis().min(1 << 60) as u64;
+            if let Some(arrival) = queue.take_speaking(now, now.saturating_sub(silent)) {
+                return NextLink::Link(arrival);
+            }
+            queue.wait_for_words(self.times.round);
+        }
+        queue.clear();
+        NextLink::Nothing
+    }
+}
+
 impl<R: Clock + Wait> Entrance<R> {
     // The same until there is one, the socket fails, or the server is stopped. The worker in this slot is back from its last client.
     fn seek(&self, slot: &Option<Arc<ClientSlot>>) -> NextLink {
@@ -302,14 +355,13 @@ impl<R: Clock + Wait> Entrance<R> {
             slot.come_back();
         }
         for _ in 0..u64::MAX {
-            let found = self.find(&mut queue);
             if self.house.is_stopped() {
-                queue.clear();
-                return NextLink::Nothing;
+                return self.find_last(&mut queue);
             }
-            match found {
-                NextLink::Nothing => {}
-                found => return found,
+            match self.find(&mut queue) {
+                NextLink::Link(arrival) if self.serves_last() => return NextLink::Link(arrival),
+                NextLink::Failed if !self.house.is_stopped() => return NextLink::Failed,
+                _ => {}
             }
         }
         NextLink::Nothing
@@ -361,14 +413,12 @@ impl<R: Clock + Wait + Copy + Drop> Entrance<R> {
         for _ in 0..u64::MAX {
             let found = self.seek(&slot);
             self.house.leave();
-            if self.house.is_stopped() {
-                return Accepted::Stopped;
-            }
             match found {
                 NextLink::Link(arrival) => match self.let_in(alloc, arrival, &slot) {
                     Some(accepted) => return accepted,
                     None => thread::sleep(&self.rt, Duration::from_millis(PAUSE)),
                 },
+                NextLink::Nothing if self.house.is_stopped() => return Accepted::Stopped,
                 NextLink::Nothing => {}
                 NextLink::Failed => return Accepted::Failed,
             }
@@ -411,7 +461,7 @@ impl<R: Clock + Wait + Copy + Send + Drop> Listener for RealListener<R> {
 }
 
 /// Stops a listener: it says so to all that belongs to the listener, and shuts its socket, so that no link comes to it any more
-/// and another listener can have its port.
+/// and another listener can have its port. A socket that other servers have, too, is not shut.
 #[derive(Drop)]
 pub struct RealStopper<R> {
     rt: R,
@@ -423,7 +473,9 @@ pub struct RealStopper<R> {
 impl<R: Clock> Stopper for RealStopper<R> {
     fn stop(&self) {
         self.house.stop(&self.rt);
-        let _ = self.socket.shutdown(Shutdown::Both);
+        if !self.house.is_shared() {
+            let _ = self.socket.shutdown(Shutdown::Both);
+        }
     }
 }
 

@@ -26,10 +26,15 @@ pub struct LinkTimes {
     pub full: Duration,
     /// How long a message is not repeated.
     pub quiet: Duration,
-    /// How long a link may be silent where the server is stopped.
+    /// How long a link may be silent where the server is stopped. Where links go on for longer than usual this is said of those
+    /// between two requests alone.
     pub ending: Duration,
     /// How long links may go on where the server is stopped.
     pub end: Duration,
+    /// By how much that is longer than usual. For as long helpers go on as before.
+    pub longer: Duration,
+    /// How long a worker waits at most for a client of a port that other servers share before it looks whether the server is stopped.
+    pub round: Duration,
     /// How long after a link gave way clients that say nothing get no worker.
     pub crowd: Duration,
     /// How long one address of a host may take to be reached.
@@ -58,11 +63,27 @@ impl LinkTimes {
             quiet: Duration::from_secs(60),
             ending: Duration::from_secs(1),
             end: Duration::from_secs(30),
+            longer: Duration::ZERO,
+            round: Duration::from_millis(200),
             crowd: Duration::from_secs(10),
             address: Duration::from_secs(10),
             host: Duration::from_secs(30),
             answer: Duration::from_secs(60),
             answer_end: Duration::from_secs(5),
         }
+    }
+
+    /// The same where links may go on so long where the server is stopped.
+    pub fn with_end(self, end: Duration) -> LinkTimes {
+        LinkTimes {
+            end,
+            longer: end.saturating_sub(self.end),
+            ..self
+        }
+    }
+
+    /// Whether links go on for longer than usual where the server is stopped.
+    pub(crate) fn linger(&self) -> bool {
+        !self.longer.is_zero()
     }
 }
