@@ -28,6 +28,8 @@ from chaos_parts.server import free_port, reply_of  # noqa: E402
 HERE = Path(__file__).resolve().parent
 TOOL = HERE.parent / "tools/bin/aclproxyctl"
 PATIENCE = 30.0  # the seconds after which a wait has failed
+# Starts the words behind the first with the file of that number as file 3.
+HANDS_OVER = "import os, sys; os.dup2(int(sys.argv[1]), 3); os.environ['LISTEN_PID'] = str(os.getpid()); os.execv(sys.argv[2], sys.argv[2:])"
 CONF = "acl SSL_ports port 1-65535\nacl CONNECT method CONNECT\nhttp_access allow all\n"
 
 
@@ -64,11 +66,9 @@ class Service:
         env = {name: value for name, value in os.environ.items() if name != "NOTIFY_SOCKET"}
         passed: tuple[int, ...] = ()
         if handed is not None:
-            # A number that dash can redirect from.
-            os.dup2(handed.fileno(), 9, inheritable=False)
-            passed = (9,)
+            passed = (handed.fileno(),)
             env["LISTEN_FDS"] = "1"
-            command = ["/bin/sh", "-c", 'LISTEN_PID=$$; export LISTEN_PID; exec "$@" 3<&9 9<&-', "sh", *command]
+            command = [sys.executable, "-c", HANDS_OVER, str(handed.fileno()), *command]
         self.process = subprocess.Popen(
             command, stdin=subprocess.DEVNULL, stdout=subprocess.DEVNULL, stderr=self.errors, env=env, pass_fds=passed
         )

@@ -1,5 +1,6 @@
 """run: a service under systemd's socket, with its orders, its runs and its ends; and what log, verify and status say of them."""
 
+import array
 import contextlib
 import http.client
 import http.server
@@ -16,6 +17,7 @@ from pathlib import Path
 from typing import Callable, Iterator, Optional
 from unittest import mock
 
+from aclproxyctl.journal import is_written
 from aclproxyctl.notify import Notifier
 from tests.common import LAUNCHER, PROGRAM, InFolder, ctl, needs_program
 
@@ -32,6 +34,8 @@ CONF = [
     "http_access deny all",
 ]
 TIME = 20.0
+# Starts the words behind the first with the file of that number as file 3.
+HANDS_OVER = "import os, sys; os.dup2(int(sys.argv[1]), 3); os.environ['LISTEN_PID'] = str(os.getpid()); os.execv(sys.argv[2], sys.argv[2:])"
 
 
 def free_port() -> int:
@@ -92,7 +96,16 @@ def origin() -> Iterator[int]:
 class Service:
     """The tool's `run` under a socket as systemd's."""
 
-    def __init__(self, folder: Path, conf: str, *options: str, abstract: bool = False, port: Optional[int] = None) -> None:
+    def __init__(
+        self,
+        folder: Path,
+        conf: str,
+        *options: str,
+        abstract: bool = False,
+        port: Optional[int] = None,
+        listen: Optional[str] = None,
+        handed: Optional[int] = None,
+    ) -> None:
         self.port = port or free_port()
         self.journal = folder / "journal"
         self.socket = socket.socket(socket.AF_UNIX, socket.SOCK_DGRAM)
@@ -103,10 +116,17 @@ class Service:
         self.socket.settimeout(TIME)
         self.errors = open(folder / "errors", "wb")
         self.folder = folder
+        # The files that systemd was asked to keep.
+        self.files: list[int] = []
+        place = ["--listen", listen] if listen is not None else ["--port", str(self.port)]
+        command = [sys.executable, str(LAUNCHER), "run", conf, *place, "--journal", str(self.journal), "--workers", "8", *options]
+        env = {**os.environ, "NOTIFY_SOCKET": name, "TZ": "UTC"}
+        if handed is not None:
+            # As systemd hands over a socket that it has kept.
+            command = [sys.executable, "-c", HANDS_OVER, str(handed), *command]
+            env.update({"LISTEN_FDS": "1", "LISTEN_FDNAMES": "port"})
         self.process = subprocess.Popen(
-            [sys.executable, str(LAUNCHER), "run", conf, "--port", str(self.port), "--journal", str(self.journal), "--workers", "8", *options],
-            stdin=subprocess.DEVNULL, stdout=subprocess.DEVNULL, stderr=self.errors,
-            env={**os.environ, "NOTIFY_SOCKET": name, "TZ": "UTC"},
+            command, stdin=subprocess.DEVNULL, stdout=subprocess.DEVNULL, stderr=self.errors, env=env, pass_fds=() if handed is None else (handed,)
         )
 
     def __enter__(self) -> "Service":
@@ -123,7 +143,10 @@ class Service:
         """The next message to systemd that has this key."""
         while True:
             try:
-                lines = self.socket.recv(4096).decode().split("\n")
+                text, more, *_ = self.socket.recvmsg(4096, socket.CMSG_SPACE(4))
+                for _, _, found in more:
+                    self.files += array.array("i", found)
+                lines = text.decode().split("\n")
             except TimeoutError:
                 raise AssertionError(f"no message with {key}; status {self.process.poll()}; said {self.said()}") from None
             message = dict(line.split("=", 1) for line in lines)
@@ -219,13 +242,8 @@ class Run(InFolder):
                 host = "www.games.example" if kind == "games" else f"127.0.0.1:{port}"
                 method = "POST" if kind == "post" else "GET"
                 asked.append((method, f"http://{host}/{kind}/{number}%20x"))
-                for attempt in range(200):
-                    # Between two runs nobody listens.
-                    try:
-                        status, body = service.get(asked[-1][1], method)
-                        break
-                    except OSError:
-                        time.sleep(0.05)
+                # A new run begins before the one that it follows ends, so nobody is refused.
+                status, body = service.get(asked[-1][1], method)
                 self.assertIn(status, (200, 403))
                 self.assertTrue(status == 403 or body == b"hello")
                 if number == 600:
@@ -270,7 +288,7 @@ class Run(InFolder):
         self.assertIn(b"denied rule 1\n", held.recv(4096))
         return held
 
-    def keep_asking(self, held: socket.socket) -> None:
+    def keep_asking(self, held: socket.socket) -> threading.Thread:
         """Asks over a connection, again and again, until it is cut: one that is idle ends with its server by itself."""
 
         def ask() -> None:
@@ -282,7 +300,9 @@ class Run(InFolder):
             except OSError:
                 pass
 
-        threading.Thread(target=ask, daemon=True).start()
+        asking = threading.Thread(target=ask, daemon=True)
+        asking.start()
+        return asking
 
     def test_second_signal(self) -> None:
         conf = self.file("conf", ["http_access deny all"])
@@ -308,9 +328,9 @@ class Run(InFolder):
         self.assertIn("connections are still open after 1 seconds", service.said())
 
     def test_new_run_over_a_held_connection(self) -> None:
-        """It is cut after the grace, and the new run serves by the rules that were current."""
+        """It is cut after its linger, and the new run serves by the rules that were current, beside it."""
         conf = self.file("conf", ["http_access deny all"])
-        with Service(self.folder, conf, "--grace", "1", "--run-bytes", "1500") as service:
+        with Service(self.folder, conf, "--linger", "2", "--run-bytes", "1500") as service:
             service.told("READY")
             self.file("conf", ["acl a src all", "http_access deny a"])
             service.process.send_signal(signal.SIGHUP)
@@ -322,14 +342,79 @@ class Run(InFolder):
                 for _ in range(5):
                     held.sendall(b"GET http://a.example/ HTTP/1.1\r\nHost: a.example\r\nX: " + b"x" * 200 + b"\r\n\r\n")
                     self.assertIn(b"denied rule 1\n", held.recv(4096))
-                self.keep_asking(held)
+                asking = self.keep_asking(held)
                 self.assertEqual(service.told("READY")["STATUS"], f"listening at port {service.port}")
+                begun = time.monotonic()
+                first, second = service.runs()[:2]
+                self.assertTrue(is_written(first))
+                self.assertEqual(service.get("http://a.example/"), (403, b"denied rule 1\n"))
+                self.assertIn(f"before it:     connections of 1 run go on: {first.name}\n", ctl("status", str(service.journal)).out)
+                asking.join(TIME)
+                took = time.monotonic() - begun
+                self.assertTrue(1.5 < took < 6, took)
+            wait_for(lambda: not is_written(first))
             service.process.send_signal(signal.SIGTERM)
             self.assertEqual(service.ended(), 0)
-            first, second, *_ = service.runs()
-        self.assertIn("connections are still open after 1 seconds", service.said())
+        self.assertIn(f"the open connections of {first.name} go on for 2 seconds at most", service.said())
         self.assertEqual((second / "squid.conf").read_text(), "acl a src all\nhttp_access deny a\n")
         self.assertEqual(ctl("verify", str(service.journal)).status, 0)
+
+    def test_new_run_that_was_asked_for(self) -> None:
+        """A silent tunnel of the run before goes on, and ends soon where the service ends."""
+        conf = self.file("conf", ["acl CONNECT method CONNECT", "acl SSL_ports port 1-65535", "http_access allow all"])
+        with origin() as port, Service(self.folder, conf) as service:
+            service.told("READY")
+            with socket.create_connection(("127.0.0.1", service.port), TIME) as held:
+                held.sendall(f"CONNECT 127.0.0.1:{port} HTTP/1.1\r\nHost: a\r\n\r\n".encode())
+                self.assertIn(b" 200 ", held.recv(4096))
+                service.process.send_signal(signal.SIGUSR1)
+                self.assertEqual(service.told("READY")["STATUS"], f"listening at port {service.port}")
+                self.assertIn("it was asked for: a new run begins\n", service.said())
+                time.sleep(2.5)
+                held.sendall(b"GET / HTTP/1.1\r\nHost: a\r\n\r\n")
+                self.assertIn(b" 200 ", held.recv(4096))
+                service.process.send_signal(signal.SIGTERM)
+                begun = time.monotonic()
+                self.assertEqual(service.ended(), 0)
+                self.assertLess(time.monotonic() - begun, 6)
+            self.assertEqual(len(service.runs()), 2)
+        self.assertEqual(ctl("verify", str(service.journal)).status, 0)
+
+    def test_one_address(self) -> None:
+        conf = self.file("conf", ["http_access deny all"])
+        port = free_port()
+        with Service(self.folder, conf, listen=f"127.0.0.2:{port}", port=port) as service:
+            self.assertEqual(service.told("READY")["STATUS"], f"listening at port {port}")
+            with self.assertRaises(ConnectionRefusedError):
+                socket.create_connection(("127.0.0.1", port), TIME)
+            socket.create_connection(("127.0.0.2", port), TIME).close()
+            service.process.send_signal(signal.SIGTERM)
+            self.assertEqual(service.ended(), 0)
+
+    def test_socket_that_is_kept(self) -> None:
+        """Systemd is asked to keep the socket, and hands it to the next start: who comes in between waits for it."""
+        conf = self.file("conf", ["http_access deny all"])
+        with Service(self.folder, conf) as service:
+            service.told("FDSTORE")
+            (kept,) = service.files
+            service.told("READY")
+            service.process.send_signal(signal.SIGTERM)
+            self.assertEqual(service.ended(), 0)
+            port = service.port
+        with socket.create_connection(("127.0.0.1", port), TIME) as waits:
+            waits.sendall(b"GET http://a.example/ HTTP/1.1\r\nHost: a.example\r\n\r\n")
+            with Service(self.folder, conf, port=port, handed=kept) as service:
+                service.told("READY")
+                self.assertIn(b"denied rule 1\n", waits.recv(4096))
+                waits.close()
+                service.process.send_signal(signal.SIGTERM)
+                self.assertEqual(service.ended(), 0)
+        # One that listens elsewhere is not wanted any more.
+        with Service(self.folder, conf, handed=kept) as service:
+            self.assertEqual(service.told("FDSTOREREMOVE")["FDNAME"], "port")
+            self.assertEqual(service.told("READY")["STATUS"], f"listening at port {service.port}")
+            self.assertNotEqual(service.port, port)
+        os.close(kept)
 
     def test_new_run_while_nobody_is_connected(self) -> None:
         """From half of the size on it begins as soon as nobody is connected, and cuts nothing."""
