@@ -40,6 +40,8 @@ LEAST_RUN_BYTES = 1024 * 1024
 PAUSE_OF_RENEWALS = 60.0
 # A run whose connections went on ends by itself in time. One that does not is ended after so many seconds more.
 SLACK = 60.0
+# A new run that does not listen by then is ended. The one before it goes on.
+PATIENCE = 60.0
 DEFAULT_PORT = 3128
 
 __all__ = ["ACCESS_BYTES", "LINGER", "PIECE_LINES", "RUN_BYTES", "Options", "Run", "Supervisor", "run", "say"]
@@ -73,6 +75,8 @@ class Supervisor:
         # The run that serves, the one that begins and does not listen yet, and those whose connections go on.
         self.current: Optional[Run] = None
         self.coming: Optional[Run] = None
+        # The clocks of the run that serves, while another one begins.
+        self.clocks = (self.watch.ahead, self.watch.suspended)
         self.lingering: list[Run] = []
         self.status = 0
         self.reload_wanted = False
@@ -228,6 +232,9 @@ class Supervisor:
         if said[0] == "listening":
             run.listens(self.port.port)
             say(f"listening at port {self.port.port}")
+            if self.stopped_at is not None:
+                # It has been told to end already.
+                return
             if run is self.coming:
                 self.change()
             self.notifier.ready(f"listening at port {self.port.port}")
@@ -264,16 +271,14 @@ class Supervisor:
         except UserError as fault:
             self.not_begun(fault.text)
             return
+        self.clocks = (self.watch.ahead, self.watch.suspended)
         self.watch.begin()
 
     def change(self) -> None:
         """The new run listens, so the one before lets nobody in any more."""
         before, self.current, self.coming = self.current, self.coming, None
-        if before is None:
-            return
+        assert before is not None
         self.lingering.append(before)
-        if self.stopped_at is not None:
-            return
         before.shut_down()
         say(f"the open connections of {before.folder.name} go on for {span_in_words(self.options.linger)} at most")
 
@@ -307,6 +312,8 @@ class Supervisor:
             return
         for run in self.lingering:
             self.look_after(run)
+        if self.coming is not None and (self.coming.killed_at is not None or time.monotonic() - self.coming.begun_at >= PATIENCE):
+            self.coming.kill()
         run = self.current
         if run is None:
             return
@@ -369,6 +376,7 @@ class Supervisor:
             self.collector.ended(run.folder)
         if run is self.coming:
             self.coming = None
+            self.watch.ahead, self.watch.suspended = self.clocks
             if self.stopped_at is None:
                 self.not_begun(self.why_of(run, status))
             return

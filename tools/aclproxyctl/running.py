@@ -184,6 +184,7 @@ class Run:
         self.refusal = ""
         self.port = 0
         self.ended = False
+        self.begun_at = time.monotonic()
         self.asked_at: Optional[float] = None
         self.killed_at: Optional[float] = None
 

@@ -322,7 +322,7 @@ class Converter:
             self.found.leave(item, "there is one port, that of the first http_port")
             return
         if colon:
-            self.found.warn(item, f"port {port} is open at all addresses of the machine, and not at {address} alone: who may come is what src lists say, or a firewall")
+            self.found.warn(item, f"port {port} is open at all addresses of the machine, and not at {address} alone, but by run --listen {item.word(1)}: else who may come is what src lists say, or a firewall")
         if colon or len(item.line.words) > 2:
             self.found.keep(item, f"# [{item.where()}: of it the port counts] {item.line.shown(400)}", f"http_port {port}")
         else:

@@ -223,7 +223,7 @@ def of_notice(line: Optional[Line], directive: str) -> str:
         said = []
         if colon:
             said.append(f"the address {address} has no effect: port {port} is open at all addresses of the machine, and who may come "
-                        "is what rules over src lists say")
+                        f"is what rules over src lists say; run --listen {line.word(1)} listens there alone")
         if len(line.words) > 2:
             more = " ".join(line.word(i) for i in range(2, len(line.words)))
             said.append(f"the words {more} have no effect")
