@@ -23,7 +23,7 @@ from typing import Callable, Optional
 
 sys.dont_write_bytecode = True
 
-from chaos_parts.server import free_port, reply_of  # noqa: E402
+from chaos_parts.server import Server, free_port, reply_of  # noqa: E402
 
 HERE = Path(__file__).resolve().parent
 TOOL = HERE.parent / "tools/bin/aclproxyctl"
@@ -342,7 +342,37 @@ def refusal(bench: Bench, folder: Path) -> None:
         bench.program = whole
 
 
-CHECKS: list[Callable[[Bench, Path], None]] = [new_runs, lingering, short_linger, restart, refusal]
+def environment(bench: Bench, folder: Path) -> None:
+    """What a server makes of variables that name no socket of its own, or no time."""
+    folder.mkdir()
+    (folder / "squid.conf").write_text(CONF)
+    os.chdir(folder)
+    port = free_port()
+    words = ["squid.conf", "--port", str(port), "--workers", "4"]
+    more = {"ACLPROXY_MESSAGES": str(folder / "messages")}
+    for linger in ("abc", "0", "86401", "-5", "", "1" * 40):
+        server = Server(bench.program, words, "journal", None, {**more, "LISTEN_FDS": "1", "LISTEN_PID": "1", "ACLPROXY_LINGER": linger})
+        said = server.hear(PATIENCE)
+        with socket.create_connection(("127.0.0.1", port), timeout=PATIENCE) as idle:
+            begun = time.monotonic()
+            server.order("shutdown\n")
+            bench.check(f"a socket of another process, ACLPROXY_LINGER={linger}", said == f"listening {port}" and server.hear(5) == "stopped", said)
+            bench.check("its end", server.ends(5) == 0 and time.monotonic() - begun < 3)
+            idle.close()
+    said = (folder / "messages").read_text()
+    line = "ACLPROXY_LINGER is no number from 1 to 86400: links go on for 30 seconds after shutdown\n"
+    bench.check("the messages", said == 6 * line, said)
+    with open(os.devnull) as none:
+        words = ["-c", HANDS_OVER, str(none.fileno()), bench.program, "serve", *words]
+        ran = subprocess.run(
+            [sys.executable, *words], pass_fds=(none.fileno(),), env={**os.environ, "LISTEN_FDS": "1"}, capture_output=True, timeout=PATIENCE
+        )
+    said = f"{ran.stdout.decode()}{ran.stderr.decode()}status {ran.returncode}"
+    wanted = f"error net\naclproxy: port {port}: Socket operation on non-socket (os error 88)\nstatus 9"
+    bench.check("a file that is no socket", said == wanted, said)
+
+
+CHECKS: list[Callable[[Bench, Path], None]] = [new_runs, lingering, short_linger, restart, refusal, environment]
 
 
 def main() -> int:
