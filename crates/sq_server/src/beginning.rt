@@ -16,7 +16,7 @@ use sq_pools::{Bank, Pools, TagPools};
 use sq_rewrite::{Rewriter, RewriterRoom};
 use sq_rules::Config;
 use sq_server_threads::{OpenedBooks, RewriterStart, Wholes};
-use sq_shared::{Asks, Grants, Hall, Ledgers, Makes, Refusals};
+use sq_shared::{Asks, Grants, Hall, Ledgers, Makes, Refusals, Room, WaitPlaces};
 use std::alloc::Global;
 use std::sync::ledger::Blank;
 
@@ -37,8 +37,8 @@ pub(crate) struct DeskAndPools<J: Journal, B: Before + DeskStart> {
     pub tags: TagPools,
 }
 
-/// The rewriter of a configuration behind its lock, if it states one, with a place to sleep for each of so many workers.
-pub(crate) fn rewriter_of(
+// The rewriter of a configuration behind its lock, if it states one, with a place to sleep for each of so many workers.
+fn rewriter_of(
     alloc: Global,
     config: &Config,
     workers: u32,
@@ -52,6 +52,28 @@ pub(crate) fn rewriter_of(
     let words = class.words.copy(alloc)?;
     let room = RewriterRoom::new(alloc, Rewriter::new(alloc, class), workers)?;
     Ok(Some(RewriterStart { room, words }))
+}
+
+/// Where the sessions of so many workers sleep: at the desk's lock, and at that of the rewriter of a configuration, if it states one.
+#[derive(Drop)]
+pub(crate) struct Sleeping {
+    pub places: WaitPlaces,
+    pub rewriter: Option<RewriterStart>,
+}
+
+/// Makes a place for each of so many workers at the desk's lock, and at that of the rewriter of a configuration, if it states one.
+pub(crate) fn sleeping_of(
+    alloc: Global,
+    config: &Config,
+    workers: u32,
+) -> Result<Sleeping, WantOfMemory>
+    ensures { IfOk result
+        (λ s. option_map (λ r. r.words) s.rewriter
+        ≡ option_map (λ c. c.words) config.now.rewriter) }
+{
+    let places = WaitPlaces::new(alloc, workers)?;
+    let rewriter = rewriter_of(alloc, config, workers)?;
+    Ok(Sleeping { places, rewriter })
 }
 
 /// Makes the desk over this journal, and the pools of both kinds of its first epoch. Where none is made the journal is handed back.
@@ -94,13 +116,14 @@ pub(crate) fn begin<J: Journal, B: Before + DeskStart>(
     }
 }
 
-/// Opens the books of a desk and of pools that counted nothing yet.
+/// Opens the books of a desk and of pools that counted nothing yet. The desk is put behind its lock, with these places to sleep.
 #[tactic(auto, using(crate::proofs::BeginLaws::counted_none, crate::proofs::BeginLaws::made_none, crate::proofs::BeginLaws::refused_none, crate::proofs::BeginLaws::granted_none))]
 pub(crate) fn open_books<D: DeskCalls, B: Ledgers>(
     alloc: Global,
     desk: D,
     pools: Pools,
     tags: TagPools,
+    places: WaitPlaces,
     blanks: Blanks,
 ) -> OpenedBooks<D, B>
     requires asks { (blanks.asks.name ≡ B.asks.name) × (blanks.asks.parts ≡ B.asks.parts) }
@@ -134,7 +157,7 @@ pub(crate) fn open_books<D: DeskCalls, B: Ledgers>(
         grants: granted,
     };
     OpenedBooks {
-        hall: Hall::new(alloc, desk, asks, makes, refusals),
+        room: Room::new(Hall::new(alloc, desk, asks, makes, refusals), places),
         bank: Bank::new(pools, tags, grants),
         wholes,
     }

@@ -8,7 +8,7 @@ ghost use Rattle.sq_machine.specs.Readings.{current};
 ghost use Rattle.sq_desk.specs.Calling.{IsUnbegun};
 ghost use Rattle.sq_calls.specs.Legality.{IsLegal};
 
-use crate::beginning::{Blanks, DeskAndPools, begin, open_books, rewriter_of};
+use crate::beginning::{Blanks, DeskAndPools, Sleeping, begin, open_books, sleeping_of};
 use crate::starting::{Served, Start, Unserved};
 use crate::threads::has_threads;
 use crate::watched::{Before, Watched};
@@ -109,8 +109,8 @@ impl<N: NetTypes + Send, J: Journal + Send + Drop> ServerStart<N, J> {
             start,
             journal,
         } = self;
-        let rewriter = match rewriter_of(alloc, start.setup.config(), workers) {
-            Ok(rewriter) => rewriter,
+        let sleeping = match sleeping_of(alloc, start.setup.config(), workers) {
+            Ok(sleeping) => sleeping,
             Err(WantOfMemory) => {
                 return Err(Unserved {
                     fault: DeskFault::WantOfMemory,
@@ -133,7 +133,10 @@ impl<N: NetTypes + Send, J: Journal + Send + Drop> ServerStart<N, J> {
             }
         };
         let DeskAndPools { desk, pools, tags } = machine;
-        let opened = open_books::<Desk<Watched<J, B>, B>, B>(alloc, desk, pools, tags, blanks);
+        let Sleeping { places, rewriter } = sleeping;
+        let opened = open_books::<Desk<Watched<J, B>, B>, B>(
+            alloc, desk, pools, tags, places, blanks,
+        );
         let ServerRun {
             desk,
             pools,

@@ -15,7 +15,7 @@ use sq_outside::{Another, Clock, Listener, Spawner, Stopper};
 use sq_pools::{Bank, Pools, TagPools};
 use sq_rewrite::{RewriterRoom, RewriterShelf, rewrite_all};
 use sq_shared::{
-    Asks, Door, Grants, Hall, HelperTypes, Ledgers, Makes, NetTypes, Refusals, Room, WorkerTypes,
+    Asks, Door, Grants, HelperTypes, Ledgers, Makes, NetTypes, Refusals, Room, WorkerTypes,
     has_failed, set_done,
 };
 use sq_workers::{SessionRooms, Shares, Sums, WorkerTools, work_all};
@@ -75,10 +75,10 @@ pub struct RewriterStart {
     pub words: Texts,
 }
 
-/// The desk and the pools for their locks, with the whole of each book's shares.
+/// The desk behind its lock and the pools for theirs, with the whole of each book's shares.
 #[derive(Drop)]
 pub struct OpenedBooks<D: DeskCalls, B: Ledgers> {
-    pub hall: Hall<D, B>,
+    pub room: Room<D, B>,
     pub bank: Bank<Grants<B>>,
     pub wholes: Wholes<B>,
 }
@@ -426,13 +426,12 @@ impl<D: DeskCalls + Send + Drop, B: Ledgers + Send + Sync> OpenedBooks<D, B> {
             × ForSome (D.told result.desk) (λ h. n + 1 ≡ current h) }
         ensures failed { result.failed ≡ true → 0 < N.L.faults result.listener }
     {
-        let OpenedBooks { hall, bank, wholes } = self;
+        let OpenedBooks { room, bank, wholes } = self;
         let Tools {
             listener,
             stopper,
             threads,
         } = tools;
-        let room = Room::new(hall);
         let bank = Mutex::new(bank);
         let door = Mutex::new(Door::new(listener));
         let shelf: Shelf<'_, <N::S as Spawner>::ChildOut, R, B> = Shelf::new(rt, alloc);

@@ -1,11 +1,13 @@
 -- Who is to be woken by a call of a desk behind its lock.
-use Rattle.std.specs.Prelude.{◌+◌, ◌%◌, ◌^◌, ◌==◌, ◌++◌, ◌∷◌, [], ℕ, List, Bool, true, false, not, if◌then◌else◌, Result, Ok, Err}
-use Rattle.std.specs.List.{filter, list_any}
+use Rattle.std.specs.Prelude.{◌+◌, ◌%◌, ◌^◌, ◌==◌, ◌++◌, ◌∷◌, [], ℕ, List, Bool, true, false, not, ◌&&◌, if◌then◌else◌, nat_lt, None, Result, Ok, Err}
+use Rattle.std.specs.List.{filter, list_any, position}
+use Rattle.std.specs.declared.option.Option.{Option}
 use Rattle.sq_calls.specs.declared.faults.DeskFault.{DeskFault}
 use Rattle.sq_channel.specs.declared.replies.Got.{Got}
 use Rattle.sq_channel.specs.declared.replies.Got.TheVariants as got
 use Rattle.sq_model.specs.declared.stepping.Stepped.{Stepped}
 use Rattle.sq_model.specs.declared.stepping.Stepped.TheVariants as stepped
+use Rattle.sq_shared.specs.declared.wait_queues.WaitQueue.{WaitQueue}
 
 -- a count that goes round at 2^64
 abbrev pub one_more : ℕ → ℕ
@@ -46,6 +48,25 @@ after_line (Ok (got.Reply question reply)) questions = without_question question
 after_line (Ok got.Bad) questions = []
 after_line (Ok got.Stray) questions = []
 after_line (Err f) questions = questions
+
+-- sessions sleep here
+abbrev pub has_waiters : WaitQueue → Bool
+has_waiters queue = nat_lt 0 queue.length
+
+-- sessions sleep here that wait for this question
+abbrev pub is_for : ℕ → WaitQueue → Bool
+is_for question queue = has_waiters queue && queue.question == question
+
+-- the place at which sessions sleep that wait for this question
+abbrev pub place_of : ℕ → List WaitQueue → Option ℕ
+place_of question queues = position (is_for question) queues
+
+-- the place of those who wait for the question that a line replied to
+abbrev pub place_after : Result Got DeskFault → List WaitQueue → Option ℕ
+place_after (Ok (got.Reply question reply)) queues = place_of question queues
+place_after (Ok got.Bad) queues = None
+place_after (Ok got.Stray) queues = None
+place_after (Err f) queues = None
 
 -- the question for which a step says to wait, or 0
 abbrev pub number_told : Result Stepped DeskFault → ℕ

@@ -3,22 +3,24 @@ ghost use Rattle.std.specs.Prelude.{◌≡◌, ◌+◌, ◌<◌, [], min, nat_lt
 ghost use Rattle.std.specs.Option.{ForSome};
 ghost use Rattle.sq_outside.specs.Causes.{count_limit};
 ghost use Rattle.sq_shared.specs.Books.{AreCounted, asks_in};
-ghost use Rattle.sq_shared.specs.Waking.{is_awaited, one_more};
+ghost use Rattle.sq_shared.specs.Waking.{is_awaited, one_more, place_after, place_of};
 ghost use Rattle.sq_machine.specs.Readings.{current};
 
 use crate::awaited::Awaited;
 use crate::ledgers::{Asks, Ledgers, Makes, Refusals};
 use crate::older::Older;
+use crate::wait_queues::WaitQueues;
 use sq_base::{EpochNo, QuestionNo, Texts, WantOfMemory};
-use sq_calls::DeskCalls;
+use sq_calls::{DeskCalls, DeskFault};
+use sq_channel::Got;
 use sq_rules::Config;
 use std::alloc::Global;
 use std::sync::Arc;
 use std::sync::ledger::{Book, Share};
 
 /// A desk with the books of its requests, reconfigurations and refusals, how often an act may have become due, for which
-/// questions' answers sessions wait, and whether it was given up. A book goes on counting where the number that the desk tells stands
-/// at its limit.
+/// questions' answers sessions wait and where these sleep, and whether it was given up. A book goes on counting where the number that
+/// the desk tells stands at its limit.
 #[derive(Drop)]
 pub struct Hall<D: DeskCalls, B: Ledgers> {
     pub(crate) desk: D,
@@ -27,6 +29,7 @@ pub struct Hall<D: DeskCalls, B: Ledgers> {
     pub(crate) refusals: Book<Refusals<B>>,
     pub(crate) changes: u64,
     pub(crate) awaited: Awaited,
+    pub(crate) queues: WaitQueues,
     pub(crate) older: Older,
     pub(crate) stopped: bool,
     pub(crate) done: bool,
@@ -36,7 +39,7 @@ pub struct Hall<D: DeskCalls, B: Ledgers> {
 }
 
 impl<D: DeskCalls, B: Ledgers> Hall<D, B> {
-    /// A desk and its books.
+    /// A desk and its books, without a place to sleep.
     pub fn new(
         alloc: Global,
         desk: D,
@@ -57,9 +60,48 @@ impl<D: DeskCalls, B: Ledgers> Hall<D, B> {
             refusals,
             changes: 0,
             awaited: Awaited::new(alloc),
+            queues: WaitQueues::none(alloc),
             older: Older::new(),
             stopped: false,
             done: false,
+        }
+    }
+
+    // The same with these places to sleep.
+    pub(crate) fn with_queues(mut self, queues: WaitQueues) -> Hall<D, B>
+        ensures desk { result.desk ≡ self.entry.desk }
+        ensures awaited { result.awaited ≡ self.entry.awaited }
+    {
+        self.queues = queues;
+        self
+    }
+
+    // Gives a place to a session that is about to sleep until the answer to this question comes. It takes no memory.
+    pub(crate) fn add_waiter(&mut self, question: QuestionNo) -> Option<usize>
+        ensures place { result ≡ place_of question self.new.queues.queues.items }
+        ensures desk { self.new.desk ≡ self.old.desk }
+        ensures changes { self.new.changes ≡ self.old.changes }
+        ensures awaited { self.new.awaited ≡ self.old.awaited }
+    {
+        self.queues.add(question)
+    }
+
+    // A session that waited at this place goes on. It takes no memory.
+    pub(crate) fn remove_waiter(&mut self, place: usize)
+        ensures desk { self.new.desk ≡ self.old.desk }
+        ensures changes { self.new.changes ≡ self.old.changes }
+        ensures awaited { self.new.awaited ≡ self.old.awaited }
+    {
+        self.queues.remove(place);
+    }
+
+    // Where the sessions sleep that wait for the question to which a line replied. None where none does.
+    pub(crate) fn place_after(&self, gave: &Result<Got, DeskFault>) -> Option<usize>
+        ensures { result ≡ place_after gave.now self.now.queues.queues.items }
+    {
+        match gave {
+            Ok(Got::Reply(question, _)) => self.queues.place_of(*question),
+            Ok(Got::Bad) | Ok(Got::Stray) | Err(_) => None,
         }
     }
 

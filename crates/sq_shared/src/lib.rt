@@ -21,6 +21,7 @@ mod lock_desk;
 mod net_types;
 mod older;
 mod room;
+mod wait_queues;
 mod waits;
 
 pub use control_desk::ControlDesk;
@@ -30,7 +31,7 @@ pub use hall::Hall;
 pub use ledgers::{Asks, Grants, Ledgers, Makes, Refusals};
 pub use lock_desk::LockDesk;
 pub use net_types::{HelperTypes, NetTypes, WorkerTypes};
-pub use room::Room;
+pub use room::{Room, WaitPlaces};
 pub use waits::{
     changes, is_awaited, is_stopped, number_told, set_done, tell_end, wait_answered, wait_due,
     wake_after_step, wake_if_stopped,

@@ -97,12 +97,11 @@ impl<'a, R: Wait, D: DeskCalls, B: Ledgers> HelperCalls for LockDesk<'a, R, D, B
         bytes: &[u8],
         now: Moment,
     ) -> Result<Got, DeskFault> {
-        let gave = self
-            .room
-            .hall
-            .lock(self.rt)
-            .line(alloc, proc, bytes, now, &mut self.refused);
-        wake_after_line(self.rt, self.room, &gave);
+        let mut hall = self.room.hall.lock(self.rt);
+        let gave = hall.line(alloc, proc, bytes, now, &mut self.refused);
+        let place = hall.place_after(&gave);
+        drop(hall);
+        wake_after_line(self.rt, self.room, &gave, place);
         gave
     }
 

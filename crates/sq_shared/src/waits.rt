@@ -35,10 +35,14 @@ pub fn wait_answered<R: Wait, D: DeskCalls, B: Ledgers>(
     room: &Room<D, B>,
     question: QuestionNo,
 ) {
-    let guard = room.hall.lock(rt);
-    let _guard = room
-        .place(question)
+    let mut guard = room.hall.lock(rt);
+    let place = guard.add_waiter(question);
+    let mut guard = room
+        .place(place)
         .wait_while(rt, guard, |hall| hall.is_awaited(question));
+    if let Some(place) = place {
+        guard.remove_waiter(place);
+    }
 }
 
 /// Whether a session sleeps, or is about to, until the answer to this question comes.
@@ -121,15 +125,17 @@ pub fn wake_all_after<R: Wait, D: DeskCalls, B: Ledgers, T>(
     room.wake_all();
 }
 
-/// After a line of a process: who waits for the question that it replied to learns it, or all where it ended the process.
+/// After a line of a process: those who wait for the question that it replied to, which had this place, learn it, or all where
+/// it ended the process.
 pub fn wake_after_line<R: Wait, D: DeskCalls, B: Ledgers>(
     rt: &R,
     room: &Room<D, B>,
     gave: &Result<Got, DeskFault>,
+    place: Option<usize>,
 ) {
     wake_if_stopped(rt, room, gave);
     match gave {
-        Ok(Got::Reply(question, _)) => room.wake_answered(*question),
+        Ok(Got::Reply(_, _)) => room.wake_answered(place),
         Ok(Got::Bad) | Ok(Got::Stray) => room.wake_all(),
         Err(_) => {}
     }

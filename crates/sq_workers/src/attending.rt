@@ -35,6 +35,7 @@ pub(crate) type LinkEnds<W> = (
 
 /// Serves a link. Its session begins with shares of its own in which nothing is counted;
 /// what it asked and was granted is added to the sums.
+#[inline(never)]
 pub(crate) fn attend<R: Threads + Wait + Sync, W: WorkerTypes, D: DeskCalls, B: Ledgers>(
     rt: &R,
     alloc: Global,

@@ -1,4 +1,7 @@
 //! `HubWaits`: what a hub's next wait and its next pause are for.
+ghost use Rattle.std.specs.Prelude.{◌≡◌, IfNone, IfOk, IfSome, OnErr, Some, IsSomeAnd};
+ghost use Rattle.sq_shared.specs.Waking.{number_told};
+
 use crate::rooms::SessionRooms;
 use sq_base::{Moment, QuestionNo};
 use sq_calls::{DeskCalls, DeskFault};
@@ -64,8 +67,33 @@ impl HubWaits {
     }
 
     /// A step gave this.
-    pub(crate) fn stepped(&mut self, gave: &Result<Stepped, DeskFault>) {
+    pub(crate) fn stepped(&mut self, gave: &Result<Stepped, DeskFault>)
+        ensures question { self.new.question ≡ number_told gave.now }
+        ensures rewriting { self.new.rewriting ≡ self.old.rewriting }
+        ensures gains_at { self.new.gains_at ≡ self.old.gains_at }
+    {
         self.question = QuestionNo(number_told(gave));
+    }
+
+    // This was taken of a question to the rewriter, and so often one may have ended by then.
+    fn taken(
+        &mut self,
+        question: QuestionNo,
+        gave: &Result<Option<Rewriting>, RewriteFault>,
+        ends: u64,
+    )
+        ensures open { IfOk gave.now
+            (λ o. IfNone o (self.new.rewriting
+            ≡ Some (record { question = question; ends = ends }))) }
+        ensures ended { IfOk gave.now
+            (λ o. IfSome o (λ _. self.new.rewriting ≡ self.old.rewriting)) }
+        ensures refused { OnErr gave.now (self.new.rewriting ≡ self.old.rewriting) }
+        ensures question { self.new.question ≡ self.old.question }
+        ensures gains_at { self.new.gains_at ≡ self.old.gains_at }
+    {
+        if let Ok(None) = gave {
+            self.rewriting = Some(RewriteWait { question, ends });
+        }
     }
 
     /// What a question to the rewriter came to. Where it has not ended, the next wait is for it.
@@ -74,14 +102,20 @@ impl HubWaits {
         rt: &R,
         rewriter: Option<&RewriterRoom>,
         question: QuestionNo,
-    ) -> Result<Option<Rewriting>, RewriteFault> {
+    ) -> Result<Option<Rewriting>, RewriteFault>
+        ensures open { IfOk result
+            (λ o. IfNone o (IsSomeAnd self.new.rewriting (λ w. w.question ≡ question))) }
+        ensures ended { IfOk result
+            (λ o. IfSome o (λ _. self.new.rewriting ≡ self.old.rewriting)) }
+        ensures refused { OnErr result (self.new.rewriting ≡ self.old.rewriting) }
+        ensures question { self.new.question ≡ self.old.question }
+        ensures gains_at { self.new.gains_at ≡ self.old.gains_at }
+    {
         let Some(rewriter) = rewriter else {
             return Err(RewriteFault::UnknownQuestion(question));
         };
         let (gave, ends) = rewriter.take(rt, question);
-        if let Ok(None) = &gave {
-            self.rewriting = Some(RewriteWait { question, ends });
-        }
+        self.taken(question, &gave, ends);
         gave
     }
 

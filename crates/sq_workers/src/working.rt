@@ -34,6 +34,7 @@ impl<W: WorkerTypes> WorkerTools<W> {
 
 // Takes one link after the other and serves it as the connection of this number, until the listener stops. Where a call
 // of the listener failed, it pauses and tries again: the fault stands at the door.
+#[inline(never)]
 fn work<R: Threads + Wait + Sync, W: WorkerTypes, D: DeskCalls, B: Ledgers>(
     rt: &R,
     alloc: Global,

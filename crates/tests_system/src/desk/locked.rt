@@ -21,7 +21,7 @@ use sq_outside_mem::MemClock;
 use sq_pools::{Bank, Pools, TagPools};
 use sq_rewrite::{LockRewriter, Rewriter, RewriterRoom};
 use sq_rules::Config;
-use sq_shared::{Asks, ControlDesk, Grants, Ledgers, LockDesk, Makes, Refusals, Room};
+use sq_shared::{Asks, ControlDesk, Grants, Ledgers, LockDesk, Makes, Refusals, Room, WaitPlaces};
 use sq_turns::Hub;
 use sq_urlmatch::Setup;
 use sq_workers::LockHub;
@@ -350,7 +350,8 @@ fn run_locked<R: Wait + Abort, D: DeskCalls, B: Ledgers>(
     requires refused { D.refused desk ≡ 0 }
     requires granted { (pools.0.granted ≡ 0) × (pools.1.granted ≡ 0) }
 {
-    let (room, bank, wholes) = lock::<D, B>(alloc, desk, pools, blanks);
+    let places = WaitPlaces::new(alloc, 1).expect(rt, "memory");
+    let (room, bank, wholes) = lock::<D, B>(alloc, desk, pools, places, blanks);
     let beside = RewriterRoom::new(alloc, rewriter, 1).expect(rt, "memory");
     let Back { asked, made } = run_table(
         rt, alloc, config, &beside, &room, &bank, clock, wholes, table, text,

@@ -7,7 +7,7 @@ use sq_base::{EpochNo, Moment};
 use sq_calls::DeskCalls;
 use sq_pools::{Bank, Pools, TagPools};
 use sq_rules::Config;
-use sq_shared::{Asks, Grants, Hall, Ledgers, Makes, Refusals, Room};
+use sq_shared::{Asks, Grants, Hall, Ledgers, Makes, Refusals, Room, WaitPlaces};
 use std::alloc::Global;
 use std::process::Abort;
 use std::sync::ledger::{Blank, Book, Ledger, Share};
@@ -51,7 +51,7 @@ pub struct Wholes<B: Ledgers> {
     pub granted: Share<Grants<B>>,
 }
 
-// Puts a desk that counted nothing yet behind its lock.
+// Puts a desk that counted nothing yet behind its lock, with these places to sleep.
 #[tactic(auto, using(crate::proofs::BeginLaws::counted_none, crate::proofs::BeginLaws::made_none, crate::proofs::BeginLaws::refused_none))]
 fn room_of<D: DeskCalls, B: Ledgers>(
     alloc: Global,
@@ -59,13 +59,14 @@ fn room_of<D: DeskCalls, B: Ledgers>(
     asks: Book<Asks<B>>,
     makes: Book<Makes<B>>,
     refusals: Book<Refusals<B>>,
+    places: WaitPlaces,
 ) -> Room<D, B>
     requires totals { (asks.total ≡ 0) × (makes.total ≡ 0) × (refusals.total ≡ 0) }
     requires entries { AreCounted 0 0 (D.told desk) }
     requires made { ForSome (D.made desk) (λ m. m ≡ 0) }
     requires refused { D.refused desk ≡ 0 }
 {
-    Room::new(Hall::new(alloc, desk, asks, makes, refusals))
+    Room::new(Hall::new(alloc, desk, asks, makes, refusals), places)
 }
 
 /// Pools of both kinds, whose first epoch begins at 0 s.
@@ -86,11 +87,12 @@ fn bank_of<G: Ledger>(pools: (Pools, TagPools), grants: Book<G>) -> Mutex<Bank<G
     Mutex::new(Bank::new(pools, tags, grants))
 }
 
-/// Puts a desk and pools that counted nothing yet behind their locks.
+/// Puts a desk and pools that counted nothing yet behind their locks, that of the desk with these places to sleep.
 pub fn lock<D: DeskCalls, B: Ledgers>(
     alloc: Global,
     desk: D,
     pools: (Pools, TagPools),
+    places: WaitPlaces,
     blanks: Blanks,
 ) -> (Room<D, B>, Mutex<Bank<Grants<B>>>, Wholes<B>)
     requires asks { (blanks.asks.name ≡ B.asks.name) × (blanks.asks.parts ≡ B.asks.parts) }
@@ -125,7 +127,7 @@ pub fn lock<D: DeskCalls, B: Ledgers>(
         granted,
     };
     (
-        room_of(alloc, desk, asks, makes, refusals),
+        room_of(alloc, desk, asks, makes, refusals, places),
         bank_of(pools, grants),
         wholes,
     )

@@ -66,6 +66,28 @@ fn a_worker_serves_while_another_waits_for_a_helper(rt: HostRuntime) {
     assert!(rt; came.got.as_str() == BOTH);
 }
 
+/// Two replies of rule 1 and one of rule 2.
+const THREE: &str =
+    "HTTP/1.1 403 Forbidden\r\nContent-Type: text/plain\r\nContent-Length: 14\r\n\r\ndenied rule 1\nHTTP/1.1 403 Forbidden\r\nContent-Type: text/plain\r\nContent-Length: 14\r\n\r\ndenied rule 1\nHTTP/1.1 403 Forbidden\r\nContent-Type: text/plain\r\nContent-Length: 14\r\n\r\ndenied rule 2\n";
+
+#[test]
+fn an_answer_wakes_all_who_wait_for_it(rt: HostRuntime) {
+    // Two ask the helper the same, which says its one line once the third has its reply.
+    let three = Job {
+        workers: b"3",
+        conf: GATE,
+        clients: &[
+            (0x0a00_0001, REQUEST),
+            (0x0a00_0001, REQUEST),
+            (0x0a00_0002, REQUEST),
+        ],
+        ..job()
+    };
+    let came = run(&rt, rt.alloc(), &three);
+    assert!(rt; came.out.as_str() == "listening 3128\nstopped\n");
+    assert!(rt; came.got.as_str() == THREE);
+}
+
 /// The reply where an entry could not be noted, and that of rule 2.
 const UNNOTED: &str =
     "HTTP/1.1 500 Internal Server Error\r\nContent-Type: text/plain\r\nContent-Length: 16\r\nConnection: close\r\n\r\njournal stopped\nHTTP/1.1 403 Forbidden\r\nContent-Type: text/plain\r\nContent-Length: 14\r\n\r\ndenied rule 2\n";
