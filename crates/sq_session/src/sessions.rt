@@ -51,6 +51,7 @@ pub fn session<R: Threads + Wait + Sync, C: Ends, F: Front, D: Dialer>(
         (F.Meter.granted front.old)
         (F.Meter.granted front.new) (D.dialled dialer.old)) (D.dialled dialer.new)
         (Rose (D.faults dialer.old) (D.faults dialer.new)) result.why }
+    ensures number { F.number front.new ≡ F.number front.old }
     ensures requests { result.requests ≡ F.asked front.new - F.asked front.old }
     ensures granted { result.granted ≡ F.Meter.granted front.new - F.Meter.granted front.old }
     ensures cause { SessionHasCause
@@ -100,6 +101,7 @@ fn open<R: Threads + Wait + Sync, C: Ends, F: Front, D: Dialer>(
         (Rose (D.faults dialer.old) (D.faults dialer.new)) result }
     ensures dry { F.Meter.dry front.new ≡ dry_after_session result }
     ensures unseated { F.Meter.seated front.new ≡ false }
+    ensures number { F.number front.new ≡ F.number front.old }
     ensures asked { F.asked front.old ≤ F.asked front.new }
     ensures client_later { C.In.faults client.old.from.source ≤ C.In.faults client.new.from.source }
     ensures to_later { C.Outgo.Sink.faults client.old.to ≤ C.Outgo.Sink.faults client.new.to }
@@ -166,6 +168,7 @@ fn serve<R: Threads + Wait + Sync, C: Ends, F: Front, D: Dialer>(
         (Rose (D.faults dialer.old) (D.faults dialer.new)) result }
     ensures dry { F.Meter.dry front.new ≡ dry_after_session result }
     ensures unseated { F.Meter.seated front.new ≡ false }
+    ensures number { F.number front.new ≡ F.number front.old }
     ensures asked { F.asked front.old ≤ F.asked front.new }
     ensures client_later { C.In.faults client.old.from.source ≤ C.In.faults client.new.from.source }
     ensures to_later { C.Outgo.Sink.faults client.old.to ≤ C.Outgo.Sink.faults client.new.to }

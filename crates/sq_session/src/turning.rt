@@ -42,6 +42,7 @@ pub(crate) fn turn<R: Threads + Wait + Sync, C: Ends, F: Front, D: Dialer>(
         (Rose (D.faults dialer.old) (D.faults dialer.new)) result }
     ensures dry { F.Meter.dry front.new ≡ dry_after result }
     ensures unseated { F.Meter.seated front.new ≡ false }
+    ensures number { F.number front.new ≡ F.number front.old }
     ensures asked { F.asked front.old ≤ F.asked front.new }
     ensures client_later { C.In.faults client.old.from.source ≤ C.In.faults client.new.from.source }
     ensures to_later { C.Outgo.Sink.faults client.old.to ≤ C.Outgo.Sink.faults client.new.to }
@@ -81,6 +82,7 @@ fn answer<R: Threads + Wait + Sync, C: Ends, F: Front, D: Dialer>(
         (Rose (D.faults dialer.old) (D.faults dialer.new)) result }
     ensures dry { F.Meter.dry front.new ≡ dry_after result }
     ensures unseated { F.Meter.seated front.new ≡ false }
+    ensures number { F.number front.new ≡ F.number front.old }
     ensures asked { F.asked front.old ≤ F.asked front.new }
     ensures client_later { C.In.faults client.old.from.source ≤ C.In.faults client.new.from.source }
     ensures to_later { C.Outgo.Sink.faults client.old.to ≤ C.Outgo.Sink.faults client.new.to }
@@ -128,6 +130,7 @@ fn obey<R: Threads + Wait + Sync, C: Ends, F: Front, D: Dialer>(
         (Rose (D.faults dialer.old) (D.faults dialer.new)) result }
     ensures dry { F.Meter.dry front.new ≡ dry_after result }
     ensures unseated { F.Meter.seated front.new ≡ false }
+    ensures number { F.number front.new ≡ F.number front.old }
     ensures asked { F.asked front.new ≡ F.asked front.old }
     ensures client_later { C.In.faults client.old.from.source ≤ C.In.faults client.new.from.source }
     ensures to_later { C.Outgo.Sink.faults client.old.to ≤ C.Outgo.Sink.faults client.new.to }

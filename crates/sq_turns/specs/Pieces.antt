@@ -26,6 +26,7 @@ use Rattle.sq_turns.specs.declared.front.Opened.{Opened}
 use Rattle.sq_turns.specs.declared.front.Opened.TheVariants as opened
 use Rattle.sq_turns.specs.Hubs.{Served}
 use Rattle.sq_turns.specs.Judging.{IsAttempt, IsDecision, IsRewriting}
+use Rattle.sq_turns.specs.Steps.{FrontSeen, front_seen}
 use Rattle.sq_turns.specs.Tellings.{HubState, StandsAt, is_outside}
 
 -- an answer of a front, the entries that its call added, and the calls of the rewriter in it
@@ -149,3 +150,10 @@ AreUnrefused refused list = refused ≡ 0 → list_all is_unrefused list ≡ tru
 abbrev pub FrontStands : ℕ → Option Served → ℕ → List FrontAnswer → Type 0
 FrontStands conn None refused list = ⊥
 FrontStands conn (Some s) refused list = IsFrontList conn s list × AreUnrefused refused list
+
+-- what is seen of the front of this connection over a hub, by what the hub told and how many
+-- refusals it counted before and now
+abbrev pub hub_seen : ℕ → Option HubState → ℕ → Option HubState → ℕ → FrontSeen
+hub_seen conn told_before refused_before told_now refused_now =
+    front_seen (FrontStands conn (served_told told_before) refused_before)
+    (FrontStands conn (served_told told_now) refused_now)

@@ -7,7 +7,7 @@ ghost use Rattle.sq_forward.specs.Halves.{to_come};
 ghost use Rattle.sq_turns.specs.Carrying.{IsSameMessage};
 ghost use Rattle.sq_turns.specs.Steps.{EndHasCause, WasTold, dry_after, turn_seen, front_seen};
 ghost use Rattle.sq_turns.specs.Told.{CarriesTold, ReachesTold};
-ghost use Rattle.sq_turns.specs.Turns.{access_of};
+ghost use Rattle.sq_turns.specs.Turns.{access_of, is_connect};
 ghost use Rattle.sq_forward.specs.Exchanges.{message};
 
 use crate::ends::Carried;
@@ -53,6 +53,7 @@ pub(crate) fn carry<R: Threads + Wait + Sync, C: Ends, F: Front, D: Dialer>(
         (Rose (D.faults dialer.old) (D.faults dialer.new)) result }
     ensures dry { F.Meter.dry front.new ≡ dry_after result }
     ensures unseated { F.Meter.seated front.new ≡ false }
+    ensures number { F.number front.new ≡ F.number front.old }
     ensures asked { F.asked front.new ≡ F.asked front.old }
     ensures client_later { C.In.faults client.old.from.source ≤ C.In.faults client.new.from.source }
     ensures to_later { C.Outgo.Sink.faults client.old.to ≤ C.Outgo.Sink.faults client.new.to }
@@ -79,8 +80,11 @@ pub(crate) fn carry<R: Threads + Wait + Sync, C: Ends, F: Front, D: Dialer>(
     carried
 }
 
-// For what the origin of a request is dialled.
-fn link_use(sent: &Request) -> LinkUse {
+// For what the origin of a request is dialled: for a tunnel where it asks for one, and else for an exchange.
+fn link_use(sent: &Request) -> LinkUse
+    ensures tunnel { is_connect sent.now ≡ true → result ≡ LinkUse.Tunnel }
+    ensures exchange { is_connect sent.now ≡ false → result ≡ LinkUse.Exchange }
+{
     if is_connect(sent) {
         LinkUse::Tunnel
     } else {

@@ -91,6 +91,9 @@ pub trait Front: Meter {
     /// It stands for this list of the answers that it gave so far, where it tells them.
     ghost stands: { Self → List FrontAnswer → Type 0 };
 
+    /// The number of its connection. No call changes it.
+    ghost number: { Self → ℕ };
+
     /// How many questions it asked. It never falls.
     ghost asked: { Self → ℕ };
 
@@ -101,6 +104,7 @@ pub trait Front: Meter {
     fn open(&mut self, alloc: Global, addr: Addr, port: u16) -> Opened
         ensures told { (list : List FrontAnswer) → stands self.old list
             → stands self.new (list ++ OfOpen addr port result ∷ []) }
+        ensures number { number self.new ≡ number self.old }
         ensures asked { asked self.new ≡ asked self.old }
         ensures refused_later { refused self.old ≤ refused self.new }
         ensures refused { OpenRefuses (refused self.old) (refused self.new) result }
@@ -112,6 +116,7 @@ pub trait Front: Meter {
     fn decide(&mut self, alloc: Global, request: &Request) -> Decided
         ensures told { (list : List FrontAnswer) → stands self.old list
             → stands self.new (list ++ OfDecide request.now result ∷ []) }
+        ensures number { number self.new ≡ number self.old }
         ensures record { Decides request.now result }
         ensures asked_later { asked self.old ≤ asked self.new }
         ensures asked { Asks (asked self.old) (asked self.new) result }
@@ -126,6 +131,7 @@ pub trait Front: Meter {
     fn rewrite(&mut self, alloc: Global, judged: &Record) -> Rewritten
         ensures told { (list : List FrontAnswer) → stands self.old list
             → stands self.new (list ++ OfRewrite judged.now result ∷ []) }
+        ensures number { number self.new ≡ number self.old }
         ensures rewrites { Rewrites judged.now.sight.request result }
         ensures asked { asked self.new ≡ asked self.old }
         ensures refused_later { refused self.old ≤ refused self.new }
@@ -139,6 +145,7 @@ pub trait Front: Meter {
         requires unseated { Self.Meter.seated self.old ≡ false }
         ensures told { (list : List FrontAnswer) → stands self.old list
             → stands self.new (list ++ OfSit judged.now result ∷ []) }
+        ensures number { number self.new ≡ number self.old }
         ensures seated { OnOk result (Self.Meter.seated self.new ≡ takes_seat judged.now) }
         ensures refused_seat { OnErr result (Self.Meter.seated self.new ≡ false) }
         ensures asked { asked self.new ≡ asked self.old }
@@ -149,6 +156,7 @@ pub trait Front: Meter {
     /// Gives its seat back, if it holds one.
     fn rise(&mut self)
         ensures told { (list : List FrontAnswer) → stands self.old list → stands self.new list }
+        ensures number { number self.new ≡ number self.old }
         ensures seated { Self.Meter.seated self.new ≡ false }
         ensures asked { asked self.new ≡ asked self.old }
         ensures refused_later { refused self.old ≤ refused self.new }
@@ -159,6 +167,7 @@ pub trait Front: Meter {
     fn close(&mut self) -> Result<(), CloseFault>
         ensures told { (list : List FrontAnswer) → stands self.old list
             → stands self.new (list ++ OfClose result ∷ []) }
+        ensures number { number self.new ≡ number self.old }
         ensures asked { asked self.new ≡ asked self.old }
         ensures refused_later { refused self.old ≤ refused self.new }
         ensures refused { CloseRefuses (refused self.old) (refused self.new) result }
@@ -174,6 +183,9 @@ pub trait Front: Meter {
     ghost asked_capped: { (front : Self) → asked front ≤ count_limit };
 
     // Grants and pauses change none of what it tells.
+    ghost number_besides: { (a b : Self) → Self.Meter.besides a ≡ Self.Meter.besides b
+        → number a ≡ number b };
+
     ghost asked_besides: { (a b : Self) → Self.Meter.besides a ≡ Self.Meter.besides b
         → asked a ≡ asked b };
 

@@ -158,6 +158,8 @@ impl<'a, R: Wait, H: Hub + Drop> Front for HubFront<'a, R, H> {
     ghost stands = { λ f list. FrontStands f.conn (served_told (H.told f.hub)) (H.refused f.hub)
         list };
 
+    ghost number = { λ f. f.conn };
+
     ghost asked = { λ f. H.asked f.hub };
 
     ghost refused = { λ f. H.refused f.hub };
@@ -171,6 +173,7 @@ impl<'a, R: Wait, H: Hub + Drop> Front for HubFront<'a, R, H> {
             (H.refused self.old.hub) list
             → FrontStands self.new.conn (served_told (H.told self.new.hub))
             (H.refused self.new.hub) (list ++ OfOpen addr port result ∷ []) }
+        ensures number { self.new.conn ≡ self.old.conn }
         ensures asked { H.asked self.new.hub ≡ H.asked self.old.hub }
         ensures refused_later { H.refused self.old.hub ≤ H.refused self.new.hub }
         ensures refused { OpenRefuses (H.refused self.old.hub) (H.refused self.new.hub) result }
@@ -195,6 +198,7 @@ impl<'a, R: Wait, H: Hub + Drop> Front for HubFront<'a, R, H> {
             (H.refused self.old.hub) list
             → FrontStands self.new.conn (served_told (H.told self.new.hub))
             (H.refused self.new.hub) (list ++ OfDecide request.now result ∷ []) }
+        ensures number { self.new.conn ≡ self.old.conn }
         ensures record { Decides request.now result }
         ensures asked_later { H.asked self.old.hub ≤ H.asked self.new.hub }
         ensures asked { Asks (H.asked self.old.hub) (H.asked self.new.hub) result }
@@ -218,6 +222,7 @@ impl<'a, R: Wait, H: Hub + Drop> Front for HubFront<'a, R, H> {
             (H.refused self.old.hub) list
             → FrontStands self.new.conn (served_told (H.told self.new.hub))
             (H.refused self.new.hub) (list ++ OfRewrite judged.now result ∷ []) }
+        ensures number { self.new.conn ≡ self.old.conn }
         ensures rewrites { Rewrites judged.now.sight.request result }
         ensures asked { H.asked self.new.hub ≡ H.asked self.old.hub }
         ensures refused_later { H.refused self.old.hub ≤ H.refused self.new.hub }
@@ -239,6 +244,7 @@ impl<'a, R: Wait, H: Hub + Drop> Front for HubFront<'a, R, H> {
             (H.refused self.old.hub) list
             → FrontStands self.new.conn (served_told (H.told self.new.hub))
             (H.refused self.new.hub) (list ++ OfSit judged.now result ∷ []) }
+        ensures number { self.new.conn ≡ self.old.conn }
         ensures seated { OnOk result (is_some self.new.seat ≡ takes_seat judged.now) }
         ensures refused_seat { OnErr result (is_some self.new.seat ≡ false) }
         ensures asked { H.asked self.new.hub ≡ H.asked self.old.hub }
@@ -263,6 +269,7 @@ impl<'a, R: Wait, H: Hub + Drop> Front for HubFront<'a, R, H> {
             (H.refused self.old.hub) list
             → FrontStands self.new.conn (served_told (H.told self.new.hub))
             (H.refused self.new.hub) list }
+        ensures number { self.new.conn ≡ self.old.conn }
         ensures seated { is_some self.new.seat ≡ false }
         ensures asked { H.asked self.new.hub ≡ H.asked self.old.hub }
         ensures refused_later { H.refused self.old.hub ≤ H.refused self.new.hub }
@@ -284,6 +291,7 @@ impl<'a, R: Wait, H: Hub + Drop> Front for HubFront<'a, R, H> {
             (H.refused self.old.hub) list
             → FrontStands self.new.conn (served_told (H.told self.new.hub))
             (H.refused self.new.hub) (list ++ OfClose result ∷ []) }
+        ensures number { self.new.conn ≡ self.old.conn }
         ensures asked { H.asked self.new.hub ≡ H.asked self.old.hub }
         ensures refused_later { H.refused self.old.hub ≤ H.refused self.new.hub }
         ensures refused { CloseRefuses (H.refused self.old.hub) (H.refused self.new.hub) result }
@@ -303,6 +311,8 @@ impl<'a, R: Wait, H: Hub + Drop> Front for HubFront<'a, R, H> {
     }
 
     ghost asked_capped = { λ f. H.asked_capped f.hub };
+
+    ghost number_besides = { λ a b e. ap Counted.conn e };
 
     ghost asked_besides = { λ a b e. ap Counted.asked e };
 

@@ -48,6 +48,7 @@ pub fn go_on<R: Threads + Wait + Sync, C: Ends, F: Front, D: Dialer>(
         (Rose (D.faults dialer.old) (D.faults dialer.new)) result }
     ensures dry { F.Meter.dry front.new ≡ dry_after result }
     ensures unseated { F.Meter.seated front.new ≡ false }
+    ensures number { F.number front.new ≡ F.number front.old }
     ensures asked { F.asked front.new ≡ F.asked front.old }
     ensures client_later { C.In.faults client.old.from.source ≤ C.In.faults client.new.from.source }
     ensures to_later { C.Outgo.Sink.faults client.old.to ≤ C.Outgo.Sink.faults client.new.to }

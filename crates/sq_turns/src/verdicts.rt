@@ -21,6 +21,7 @@ pub fn verdict<F: Front>(
 ) -> Result<(Record, BodyPlan), Own>
     ensures settles { Settles request.now (front_seen (F.stands front.old) (F.stands front.new))
         result }
+    ensures number { F.number front.new ≡ F.number front.old }
     ensures asked { F.asked front.old ≤ F.asked front.new }
     ensures seated { F.Meter.seated front.new ≡ F.Meter.seated front.old }
     ensures granted { F.Meter.granted front.new ≡ F.Meter.granted front.old }

@@ -10,6 +10,7 @@ loop-init g c = record {
   served = serves_none _ _ _ _ (g.met.F.Meter.capped c.args.front.now);
   dry = c.requires.dry;
   unseated = c.requires.unseated;
+  number = refl;
   asked = omega arith;
   client_later = omega arith;
   to_later = omega arith;
@@ -24,6 +25,7 @@ loop-preserved g c =
           (λ f. rose_earlier _ _ _ f c.turn.ensures.dialer_later) (λ f. rose_later _ _ _ inv.dialer_later f);
       dry = c.in-Stays.ensures.dry;
       unseated = c.turn.ensures.unseated;
+      number = c.turn.ensures.number ∙ inv.number;
       asked = omega (arith, inv.asked, c.turn.ensures.asked);
       client_later = omega (arith, inv.client_later, c.turn.ensures.client_later);
       to_later = omega (arith, inv.to_later, c.turn.ensures.to_later);

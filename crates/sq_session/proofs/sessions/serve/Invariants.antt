@@ -18,6 +18,7 @@ invariant-loop g l =
           (g.F.Meter.granted l.fn.front) (g.F.Meter.granted l.front);
       dry : g.F.Meter.dry l.front ≡ 0;
       unseated : g.F.Meter.seated l.front ≡ false;
+      number : g.F.Front.number l.front ≡ g.F.Front.number l.fn.front;
       asked : g.F.Front.asked l.fn.front ≤ g.F.Front.asked l.front;
       client_later : g.C.In.Source.faults l.fn.client.from.source ≤ g.C.In.Source.faults l.client.from.source;
       to_later : g.C.Outgo.Sink.faults l.fn.client.to ≤ g.C.Outgo.Sink.faults l.client.to;

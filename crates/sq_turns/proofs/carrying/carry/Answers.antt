@@ -85,6 +85,11 @@ returns-clause-told g c =
 pub returns-clause-calls : goal.returns-clause-calls
 returns-clause-calls g c = inr c.reach-carried.ensures.calls
 
+pub returns-clause-number : goal.returns-clause-number
+returns-clause-number g c = c.rise.ensures.number
+    ∙ g.met.F.Front.number_besides c.reach-carried.new.meter c.sit.new.self c.reach-carried.ensures.besides
+    ∙ c.in-Ok.ensures.number
+
 pub returns-clause-asked : goal.returns-clause-asked
 returns-clause-asked g c = c.rise.ensures.asked
     ∙ g.met.F.Front.asked_besides c.reach-carried.new.meter c.sit.new.self c.reach-carried.ensures.besides
