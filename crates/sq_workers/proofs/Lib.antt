@@ -1,1 +1,2 @@
 mod HubLaws
+mod ServeLaws

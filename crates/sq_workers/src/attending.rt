@@ -1,6 +1,10 @@
 //! One link, served by one session.
 ghost use Rattle.std.specs.Prelude.{◌≡◌, ◌+◌, ◌-◌, min};
-ghost use Rattle.sq_outside.specs.Causes.{count_limit};
+ghost use Rattle.sq_outside.specs.Causes.{Rose, count_limit};
+ghost use Rattle.sq_outside.specs.Dials.{IsClosed};
+ghost use Rattle.sq_turns.specs.Pieces.{hub_seen};
+ghost use Rattle.sq_turns.specs.Sessions.{session_seen};
+ghost use Rattle.sq_turns.specs.Told.{SessionTold};
 
 use crate::lock_hub::{LockHub, Shares};
 use crate::rooms::SessionRooms;
@@ -8,7 +12,7 @@ use crate::sums::Sums;
 use sq_base::{Addr, ConnNo};
 use sq_calls::DeskCalls;
 use sq_forward::{Ahead, Duplex, Ends, Half};
-use sq_outside::{Clock, Dialer, Listener};
+use sq_outside::{Clock, Dialer, Listener, Out, Sink};
 use sq_session::{SessionEnd, session};
 use sq_shared::{Ledgers, Refusals, WorkerTypes};
 use sq_turns::{Hub, HubFront};
@@ -33,8 +37,8 @@ pub(crate) type LinkEnds<W> = (
     <<W as WorkerTypes>::L as Listener>::Outgo,
 );
 
-/// Serves a link. Its session begins with shares of its own in which nothing is counted;
-/// what it asked and was granted is added to the sums.
+/// Serves a link as the connection of the number of its worker. Its session begins with shares of its own in which nothing is
+/// counted; what it asked and was granted is added to the sums.
 #[inline(never)]
 pub(crate) fn attend<R: Threads + Wait + Sync, W: WorkerTypes, D: DeskCalls, B: Ledgers>(
     rt: &R,
@@ -46,9 +50,11 @@ pub(crate) fn attend<R: Threads + Wait + Sync, W: WorkerTypes, D: DeskCalls, B: 
     refused: &mut Share<Refusals<B>>,
     sums: &mut Sums<B>,
 ) -> SessionEnd
+    requires number { (link.conn ≡ sums.old.first) × (sums.old.count ≡ 1) }
     requires asked { sums.old.asked.parts ≡ 2 }
     requires grants { sums.old.grants.parts ≡ 2 }
     requires refused { refused.old.parts ≡ 2 }
+    ensures numbers { (sums.new.first ≡ sums.old.first) × (sums.new.count ≡ 1) }
     ensures requests { sums.new.requests ≡ min (sums.old.requests + result.requests) count_limit }
     ensures granted { sums.new.granted ≡ min (sums.old.granted + result.granted) count_limit }
     ensures asked { sums.new.asked.parts ≡ 2 }
@@ -80,7 +86,7 @@ fn serve_link<R: Threads + Wait + Sync, W: WorkerTypes, D: DeskCalls, B: Ledgers
         × (result.1.granted.parts ≡ 1) }
 {
     let hub = new_hub(rt, rooms, clock, shares);
-    let (end, hub) = serve(rt, alloc, hub, link, dialer);
+    let (end, hub, _) = serve(rt, alloc, hub, link, dialer);
     (end, hub.finish())
 }
 
@@ -114,14 +120,21 @@ fn new_hub<'a, R: Wait, D: DeskCalls, B: Ledgers, C: Clock + Drop>(
     )
 }
 
-// Serves a link over a hub, which it gives back.
+// Serves a link over a hub. It gives back the hub, and the half of the link that was written to.
 fn serve<R: Threads + Wait + Sync, H: Hub + Drop, E: Ends, D: Dialer>(
     rt: &R,
     alloc: Global,
     hub: H,
     link: ClientLink<E>,
     dialer: &mut D,
-) -> (SessionEnd, H)
+) -> (SessionEnd, H, E::Outgo)
+    // Where the hub tells, the session is that of the link's address and port, on the connection of the link's number.
+    ensures told { SessionTold link.addr link.port (E.In.left link.from)
+        (hub_seen link.conn (H.told hub) (H.refused hub) (H.told result.1) (H.refused result.1))
+        (session_seen (E.Outgo.Sink.contents link.to) (E.Outgo.Sink.contents result.2)
+        (H.granted hub) (H.granted result.1) (D.dialled dialer.old)) (D.dialled dialer.new)
+        (Rose (D.faults dialer.old) (D.faults dialer.new)) result.0.why }
+    ensures closed { IsClosed (E.Outgo.closed result.2) }
     ensures requests { result.0.requests ≡ H.asked result.1 - H.asked hub }
     ensures granted { result.0.granted ≡ H.granted result.1 - H.granted hub }
 {
@@ -141,5 +154,6 @@ fn serve<R: Threads + Wait + Sync, H: Hub + Drop, E: Ends, D: Dialer>(
         to,
     };
     let end = session(rt, alloc, &mut client, addr, port, &mut front, dialer);
-    (end, front.finish())
+    let Duplex { from: _, to } = client;
+    (end, front.finish(), to)
 }

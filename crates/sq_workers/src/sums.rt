@@ -1,5 +1,5 @@
 //! `Sums`: what the sessions of workers came to.
-ghost use Rattle.std.specs.Prelude.{◌≡◌, ◌+◌, min};
+ghost use Rattle.std.specs.Prelude.{◌≡◌, ◌+◌, ◌<◌, ◌^◌, min};
 ghost use Rattle.sq_outside.specs.Causes.{count_limit};
 
 use crate::lock_hub::Shares;
@@ -8,9 +8,14 @@ use sq_shared::{Asks, Grants, Ledgers, Refusals};
 use std::sync::ledger::Share;
 
 /// The sums of what the sessions of workers asked and were granted, each up to 2^63 - 1, with the workers' shares of the
-/// books of requests and of grants: they are the same.
+/// books of requests and of grants: they are the same. The workers open their connections as so many numbers, one each, that
+/// follow one another.
 #[derive(Drop)]
 pub struct Sums<B: Ledgers> {
+    /// The number as which the first worker opens its connections.
+    pub first: u32,
+    /// How many workers there are.
+    pub count: u32,
     /// The sum of the sessions' requests.
     pub requests: u64,
     /// The sum of the bytes that the sessions were granted.
@@ -32,6 +37,7 @@ impl<B: Ledgers> Sums<B> {
         ensures granted { (result.granted.parts ≡ 1) × (result.granted.amount ≡ 0) }
         ensures requests { self.new.requests ≡ self.old.requests }
         ensures sum { self.new.granted ≡ self.old.granted }
+        ensures numbers { (self.new.first ≡ self.old.first) × (self.new.count ≡ self.old.count) }
         ensures rest { (self.new.asked.parts ≡ 1) × (self.new.grants.parts ≡ 1)
             × (refused.new.parts ≡ 1) }
     {
@@ -58,11 +64,14 @@ impl<B: Ledgers> Sums<B> {
             × (refused.old.parts ≡ 1) }
         ensures requests { self.new.requests ≡ min (self.old.requests + requests) count_limit }
         ensures granted { self.new.granted ≡ min (self.old.granted + granted) count_limit }
+        ensures numbers { (self.new.first ≡ self.old.first) × (self.new.count ≡ self.old.count) }
         ensures asked { self.new.asked.parts ≡ 2 }
         ensures grants { self.new.grants.parts ≡ 2 }
         ensures refused { refused.new.parts ≡ 2 }
     {
         let Sums {
+            first: _,
+            count: _,
             requests: all_requests,
             granted: all_granted,
             asked,
@@ -76,20 +85,27 @@ impl<B: Ledgers> Sums<B> {
     }
 }
 
-/// The sums of both.
+/// The sums of both. The numbers of the second begin where those of the first end, so no number is of two workers.
 pub(crate) fn both<B: Ledgers>(one: Sums<B>, other: Sums<B>) -> Sums<B>
+    requires next { other.first ≡ one.first + one.count }
+    requires fits { one.count + other.count < 2 ^ 32 }
+    ensures numbers { (result.first ≡ one.first) × (result.count ≡ one.count + other.count) }
     ensures requests { result.requests ≡ min (one.requests + other.requests) count_limit }
     ensures granted { result.granted ≡ min (one.granted + other.granted) count_limit }
     ensures asked { result.asked.parts ≡ one.asked.parts + other.asked.parts }
     ensures grants { result.grants.parts ≡ one.grants.parts + other.grants.parts }
 {
     let Sums {
+        first,
+        count,
         requests,
         granted,
         mut asked,
         mut grants,
     } = one;
     let Sums {
+        first: _,
+        count: more,
         requests: more_requests,
         granted: more_granted,
         asked: more_asked,
@@ -98,6 +114,8 @@ pub(crate) fn both<B: Ledgers>(one: Sums<B>, other: Sums<B>) -> Sums<B>
     asked.merge(more_asked);
     grants.merge(more_grants);
     Sums {
+        first,
+        count: count + more,
         requests: raised_by(requests, more_requests),
         granted: raised_by(granted, more_granted),
         asked,

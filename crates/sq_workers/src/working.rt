@@ -32,22 +32,23 @@ impl<W: WorkerTypes> WorkerTools<W> {
     }
 }
 
-// Takes one link after the other and serves it as the connection of this number, until the listener stops. Where a call
-// of the listener failed, it pauses and tries again: the fault stands at the door.
+// Takes one link after the other and serves it as the connection of the number of its sums, until the listener stops. Where
+// a call of the listener failed, it pauses and tries again: the fault stands at the door.
 #[inline(never)]
 fn work<R: Threads + Wait + Sync, W: WorkerTypes, D: DeskCalls, B: Ledgers>(
     rt: &R,
     alloc: Global,
     door: &Mutex<Door<W::L>>,
     rooms: &SessionRooms<'_, D, B>,
-    conn: ConnNo,
     tools: WorkerTools<W>,
     mut sums: Sums<B>,
     mut refused: Share<Refusals<B>>,
 ) -> Sums<B>
+    requires one { sums.count ≡ 1 }
     requires asked { sums.asked.parts ≡ 2 }
     requires grants { sums.grants.parts ≡ 2 }
     requires refused { refused.parts ≡ 2 }
+    ensures numbers { (result.first ≡ sums.first) × (result.count ≡ 1) }
     ensures asked { result.asked.parts ≡ 2 }
     ensures grants { result.grants.parts ≡ 2 }
 {
@@ -64,7 +65,7 @@ fn work<R: Threads + Wait + Sync, W: WorkerTypes, D: DeskCalls, B: Ledgers>(
                 port,
             } => {
                 let link = ClientLink {
-                    conn,
+                    conn: ConnNo(u64::from(sums.first)),
                     from,
                     to,
                     addr,
@@ -89,14 +90,17 @@ fn work<R: Threads + Wait + Sync, W: WorkerTypes, D: DeskCalls, B: Ledgers>(
     unreachable!()
 }
 
-// Nothing was asked yet, and nothing granted.
-fn nothing<B: Ledgers>(asked: Share<Asks<B>>, grants: Share<Grants<B>>) -> Sums<B>
+// Nothing was asked yet, and nothing granted, by the worker of this number.
+fn nothing<B: Ledgers>(number: u32, asked: Share<Asks<B>>, grants: Share<Grants<B>>) -> Sums<B>
     requires asked { asked.amount ≡ 0 }
     requires grants { grants.amount ≡ 0 }
+    ensures numbers { (result.first ≡ number) × (result.count ≡ 1) }
     ensures asked { result.asked ≡ asked }
     ensures grants { result.grants ≡ grants }
 {
     Sums {
+        first: number,
+        count: 1,
         requests: 0,
         granted: 0,
         asked,
@@ -161,6 +165,8 @@ pub fn work_all<
     requires asked { (shares.asked.parts ≡ count + count) × (shares.asked.amount ≡ 0) }
     requires refused { shares.refused.parts ≡ count + count }
     requires grants { (shares.granted.parts ≡ count + count) × (shares.granted.amount ≡ 0) }
+    // Each worker has a number of its own: the first of them, and so on to the last.
+    ensures numbers { (result.first ≡ first) × (result.count ≡ count) }
     ensures asked { result.asked.parts ≡ count + count }
     ensures grants { result.grants.parts ≡ count + count }
 {
@@ -170,9 +176,8 @@ pub fn work_all<
             refused,
             granted,
         } = shares;
-        let conn = ConnNo(u64::from(first));
-        let sums = nothing(asked, granted);
-        return work::<R, W, D, B>(rt, alloc, door, rooms, conn, tools, sums, refused);
+        let sums = nothing(first, asked, granted);
+        return work::<R, W, D, B>(rt, alloc, door, rooms, tools, sums, refused);
     }
     let low = count / 2;
     let high = count - low;
@@ -190,7 +195,8 @@ pub fn work_all<
                 × (shares_low.asked.parts ≡ low + low) × (shares_low.asked.amount ≡ 0)
                 × (shares_low.refused.parts ≡ low + low)
                 × (shares_low.granted.parts ≡ low + low) × (shares_low.granted.amount ≡ 0) }
-            ensures { (result.asked.parts ≡ low + low) × (result.grants.parts ≡ low + low) }
+            ensures { (result.first ≡ first) × (result.count ≡ low)
+                × (result.asked.parts ≡ low + low) × (result.grants.parts ≡ low + low) }
         { work_all::<R, W, D, B>(rt, alloc, door, rooms, tools_low, first, low, shares_low) },
         move || -> Sums<B>
             requires { IsSync R.row × IsSend W.row × IsSend D.row × IsSend B.row × IsSync B.row
@@ -200,7 +206,8 @@ pub fn work_all<
                 × (shares.asked.parts ≡ high + high) × (shares.asked.amount ≡ 0)
                 × (shares.refused.parts ≡ high + high)
                 × (shares.granted.parts ≡ high + high) × (shares.granted.amount ≡ 0) }
-            ensures { (result.asked.parts ≡ high + high) × (result.grants.parts ≡ high + high) }
+            ensures { (result.first ≡ next) × (result.count ≡ high)
+                × (result.asked.parts ≡ high + high) × (result.grants.parts ≡ high + high) }
         { work_all::<R, W, D, B>(rt, alloc, door, rooms, tools, next, high, shares) },
     );
     both(one, other)
