@@ -10,13 +10,16 @@ use Rattle.sq_outside.specs.SourceLines.{SourceLine, lines}
 use Rattle.sq_outside.specs.Told.{Openings, Texts}
 use Rattle.sq_outside.proofs.Writing.{Grew_proper_after}
 use Rattle.sq_rules.specs.Configurations.{Configuration}
+use Rattle.sq_calls.specs.Moments.{IsTimely}
 use Rattle.sq_calls.specs.declared.faults.DeskFault.{DeskFault}
+use Rattle.sq_machine.specs.Entries.{History}
 use Rattle.sq_control.specs.declared.panel.PanelEnd.{PanelEnd}
 use Rattle.sq_control.specs.declared.panel.PanelEnd.TheVariants as ends
 use Rattle.sq_control.specs.Rereading.{Asks, CountsMade, is_answer}
 use Rattle.sq_control.specs.declared.control.Reread.{Reread}
 use Rattle.sq_control.specs.declared.control.Reread.TheVariants as reread
 use Rattle.sq_control.specs.Attending.{AreReread, Attends, CountsEpochs, HasCauses, HasEpoch, IsFollowed, IsReread, Seen, StatesConfiguration, Streams, counts_made, made_in}
+use Rattle.sq_control.specs.Renewing.{AddsRenewal, GivesConfig, Renewals, Renews}
 use Rattle.sq_control.specs.Orders.{IsNext, IsOrdered, counts_with, left_with, lines_left, rereads_in}
 use Rattle.sq_control.specs.ControlText.{control_text, listening_text, reread_text, rereads_text}
 use Rattle.sq_control.specs.declared.orders.Order.{Order}
@@ -374,3 +377,15 @@ pub asked_of : {K : Type 0} (texts : Texts) (before now : Openings) (name : List
     → is_answer r ≡ true → StatesConfiguration texts before now name
 asked_of texts before now name R old new r (inl x) e = (x.0, x.2)
 asked_of texts before now name R old new r (inr x) e = absurd (let no : true ≡ false = sym e ∙ x.1 in cc)
+
+-- the clock is another value by now that gives the same moments
+pub timely_still : {first last now : Option (List ℕ)} {old new : Option History} → last ≡ now
+    → IsTimely first last old new → IsTimely first now old new
+timely_still {first} {last} {now} {old} {new} e is = subst (λ (m : Option (List ℕ)). IsTimely first m old new) e is
+
+-- what stands beside learned of an epoch with what the desk gave
+pub renews_made : (configs : ℕ → Option (Option Configuration)) (r : Reread) (epoch now : ℕ) (old new : Renewals)
+    (config : Configuration) → r ≡ reread.Made epoch → GivesConfig (configs epoch) (Some config)
+    → AddsRenewal old new (record { epoch = epoch; config = config; now = now }) → Renews configs r now old new
+renews_made configs r epoch now old new config is gives adds =
+    subst (λ (k : Reread). Renews configs k now old new) (sym is) (Some config, gives, adds)

@@ -1,7 +1,7 @@
 -- A text that is read, and what it states.
-use Rattle.std.proofs.Common.{◌≡◌, ℕ, List, ◌∷◌, Result, Ok, Err, Some, None, IfSome, sym, ap, ◌∙◌, subst}
+use Rattle.std.proofs.Common.{◌≡◌, ℕ, List, ◌∷◌, Result, Ok, Err, Some, None, IfSome, inr, sym, ap, ◌∙◌, subst}
 use Rattle.std.specs.declared.option.Option.{Option}
-use Rattle.sq_outside.specs.Input.{IsWhole, ReadsFile, ReadsOpening}
+use Rattle.sq_outside.specs.Input.{IsWhole, OpensAtMost, ReadsFile, ReadsOpening}
 use Rattle.sq_outside.specs.Told.{AddsText, Openings, Texts}
 use Rattle.sq_rules.specs.Configurations.{Configuration}
 use Rattle.sq_calls.specs.Legality.{Beginning, IsStated}
@@ -47,6 +47,12 @@ of_file texts before now name text P read adds f = record {
   file = file_of texts name text P read f;
   opening = opening_of before now name text P adds f;
 }
+
+-- a file that was read was opened once
+pub opens_most : (before now : Openings) (name : List ℕ) (text : Option (List ℕ))
+    → ReadsOpening text_limit before now name text → OpensAtMost before now name
+opens_most None now name text adds = inr adds
+opens_most (Some earlier) now name text (bytes, is, whole) = inr (bytes, is, tt)
 
 -- a configuration that it gives is what it states
 pub states_of : (text : Option (List ℕ)) (config : Configuration)

@@ -5,6 +5,7 @@ use Rattle.std.specs.Prelude.{◌≡◌, ℕ, ◌+◌, ◌≤◌, List, [], ◌�
 use Rattle.std.specs.Io.KnownBytes.{Appends}
 use Rattle.std.specs.declared.option.Option.{Option}
 use Rattle.sq_outside.specs.Causes.{Rose}
+use Rattle.sq_outside.specs.Input.{OpensAtMost}
 use Rattle.sq_outside.specs.Output.{Grew, IsProperPrefix}
 use Rattle.sq_outside.specs.SourceLines.{SourceLine, lines}
 use Rattle.sq_outside.specs.Told.{IsNotTold, Openings, Texts}
@@ -42,12 +43,13 @@ abbrev pub StatesConfiguration : Texts → Openings → Openings → List ℕ �
 StatesConfiguration texts before now name = (config : Configuration)
     × OfFile texts before now name (States config)
 
--- what became of one reconfiguration by the file of this name; the desk answered only where the
--- text was accepted
+-- what became of one reconfiguration by the file of this name, which was opened once at most; the
+-- desk answered only where the text was accepted
 pub record IsReread (texts : Texts) (name : List ℕ) (before : Seen) (result : Reread)
     (now : Seen) : Type 0 where
   pub adds : Adds texts before.files.opened now.files.opened name before.desk.told now.desk.told
       result
+  pub opened : OpensAtMost before.files.opened now.files.opened name
   pub made : CountsMade before.desk.made now.desk.made result
   pub asked : is_answer result ≡ true
       → StatesConfiguration texts before.files.opened now.files.opened name

@@ -1,5 +1,6 @@
 pub mod Attending
 pub mod ControlViews
 pub mod Orders
+pub mod Renewing
 pub mod Rereading
 pub mod ControlText

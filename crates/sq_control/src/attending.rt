@@ -5,6 +5,7 @@ ghost use Rattle.sq_outside.specs.World.{GivesMoment};
 ghost use Rattle.sq_calls.specs.Moments.{IsTimely};
 ghost use Rattle.sq_control.specs.Attending.{Attends};
 ghost use Rattle.sq_control.specs.ControlViews.{desk_of};
+ghost use Rattle.sq_control.specs.Renewing.{AddsRenewal, Renewals, Renews};
 
 use crate::control::{Control, Reread};
 use crate::orders::{Order, next_order};
@@ -24,13 +25,21 @@ pub trait Beside {
     /// What `must_end` needs.
     ghost callable: { Self → Type 0 };
 
+    /// The epochs of which it learned, the newest first, where it tells them.
+    ghost renewed: { Self → Renewals };
+
     /// The moment of this call.
     fn now(&mut self) -> Moment
         ensures moment { GivesMoment (moments self.old) (moments self.new) result }
+        ensures renewed { renewed self.new ≡ renewed self.old }
         ensures callable { callable self.old → callable self.new };
 
     /// Learns that an epoch has begun with this configuration.
-    fn renew(&self, epoch: EpochNo, config: &Arc<Config>, now: Moment);
+    fn renew(&mut self, epoch: EpochNo, config: &Arc<Config>, now: Moment)
+        ensures renewed { AddsRenewal (renewed self.old) (renewed self.new)
+            (record { epoch = epoch; config = config.now.value; now = now }) }
+        ensures moments { moments self.new ≡ moments self.old }
+        ensures callable { callable self.old → callable self.new };
 
     /// Whether the server has to end, as far as this is known: the desk has stopped since its journal failed, or the listener
     /// failed.
@@ -56,7 +65,12 @@ impl<F: Files, S: Source, O: Sink> Console for (F, S, O) {
 }
 
 // Tells of an epoch that has begun.
-fn renew<K: TellsJournal, B: Beside>(desk: &K, beside: &B, reread: &Reread, now: Moment) {
+fn renew<K: TellsJournal, B: Beside>(desk: &K, beside: &mut B, reread: &Reread, now: Moment)
+    ensures renews { Renews (K.configs desk.now) reread.now now (B.renewed beside.old)
+        (B.renewed beside.new) }
+    ensures moments { B.moments beside.new ≡ B.moments beside.old }
+    ensures callable { B.callable beside.old → B.callable beside.new }
+{
     if let Reread::Made(epoch) = reread {
         if let Some(config) = desk.config(*epoch) {
             beside.renew(*epoch, &config, now);
@@ -147,7 +161,7 @@ pub fn attend<R: Wait, K: ControlCalls, I: Console, B: Beside>(
             Ok(Order::Reconfigure) => {
                 let now = beside.now();
                 let reread = control.reread(conf, files, now);
-                renew(control.desk(), &*beside, &reread, now);
+                renew(control.desk(), beside, &reread, now);
                 match write_reread(out, &reread) {
                     Ok(()) => {}
                     Err(Failed) => return PanelEnd::WriteFault,

@@ -2,7 +2,7 @@
 ghost use Rattle.std.specs.Prelude.{◌≡◌, ◌≤◌, ◌∷◌, [], ℕ, List, true, IfOk, IfErr};
 ghost use Rattle.sq_rules.specs.declared.kinds.ConfError.{ConfError};
 ghost use Rattle.sq_outside.specs.Causes.{Rose};
-ghost use Rattle.sq_outside.specs.Input.{IsWhole};
+ghost use Rattle.sq_outside.specs.Input.{IsWhole, OpensAtMost};
 ghost use Rattle.sq_outside.specs.Told.{IsNotTold};
 ghost use Rattle.sq_rules.specs.ConfText.{conf_gives, conf_refuses};
 ghost use Rattle.sq_rules.specs.Limits.{text_limit};
@@ -107,6 +107,7 @@ impl<K: ControlCalls> Control<K> {
     }
 
     /// Reads the file of this name, and makes one reconfiguration of what it states, at this moment.
+    #[tactic(auto, using(crate::proofs::RereadLaws::opens_most))]
     pub fn reread<F: Files>(&mut self, conf: &Text, files: &mut F, now: Moment) -> Reread
         // At most one entry is added: the reconfiguration of the text that was read, and that exactly where it was made.
         ensures adds { Adds (F.texts files.old) (F.opened files.old) (F.opened files.new) conf.now
@@ -122,6 +123,8 @@ impl<K: ControlCalls> Control<K> {
             × Notes K.first now answer.Epoch (IsReread config) (K.told (desk_of self.old))
             (K.told (desk_of self.new)) gave)
             (desk_of self.old) (desk_of self.new) result }
+        // Of files, that of this name was opened once at most.
+        ensures opened { OpensAtMost (F.opened files.old) (F.opened files.new) conf.now }
         ensures at { (e : ConfError) → result ≡ Reread.At e
             → IsRefused (F.texts files.old) (F.opened files.old) (F.opened files.new) conf.now e }
         ensures missing { result ≡ Reread.Missing → IsNotTold (F.texts files.old) conf.now }

@@ -1,5 +1,5 @@
 //! A control as the panel of a server.
-ghost use Rattle.std.specs.Prelude.{◌≡◌, ◌<◌};
+ghost use Rattle.std.specs.Prelude.{◌≡◌, ◌<◌, None};
 
 use crate::attending::{Beside, attend};
 use crate::control::Control;
@@ -29,12 +29,14 @@ impl<'a, R: Wait, D: DeskCalls, B: Ledgers, M: Monitor> Beside for Locks<'a, R, 
 
     ghost callable = { λ s. M.callable s.monitor };
 
+    ghost renewed = { λ _. None };
+
     fn now(&mut self) -> Moment {
         self.monitor.now()
     }
 
     // Want of memory is passed over: pools of either kind make the generation where a seat is chosen.
-    fn renew(&self, epoch: EpochNo, config: &Arc<Config>, now: Moment) {
+    fn renew(&mut self, epoch: EpochNo, config: &Arc<Config>, now: Moment) {
         let _ = sq_pools::renew(self.rt, self.alloc, self.bank, epoch, config, now);
         let _ = sq_pools::renew_tags(self.rt, self.alloc, self.bank, epoch, config, now);
     }

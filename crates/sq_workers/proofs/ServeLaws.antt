@@ -27,15 +27,15 @@ pub serves_hub : {H : Type 0} (told : H → Option HubState) (refused granted : 
     {before now : Option Dialled} {failed : Type 0} {end : End}
     → ahead ≡ [] → c ≡ conn → h ≡ hub → d ≡ c → r ≡ k
     → SessionTold addr port (prepend_known ahead left)
-      (front_seen (FrontStands c (served_told (told h)) (refused h)) (FrontStands d (served_told (told k)) (refused k)))
-      (session_seen a b (granted h) (granted k) before) now failed end
+    (front_seen (FrontStands c (served_told (told h)) (refused h)) (FrontStands d (served_told (told k)) (refused k)))
+    (session_seen a b (granted h) (granted k) before) now failed end
     → SessionTold addr port left (hub_seen conn (told hub) (refused hub) (told r) (refused r))
-      (session_seen a b (granted hub) (granted r) before) now failed end
+    (session_seen a b (granted hub) (granted r) before) now failed end
 serves_hub {H} told refused granted addr port left conn hub {ahead} {c} {d} {h} {k} {r} {a} {b} {before} {now} {failed}
     {end} none same_conn same_hub kept back x =
     let Seen : Option (List ℕ) → ℕ → ℕ → H → H → Type 0 = λ l m n u v. SessionTold addr port l
-      (hub_first m n (told u) (refused u) (told v) (refused v)) (session_seen a b (granted u) (granted v) before) now
-      failed end in
+    (hub_first m n (told u) (refused u) (told v) (refused v)) (session_seen a b (granted u) (granted v) before) now
+    failed end in
     subst (λ v. Seen left conn conn hub v) (sym back)
     (subst (λ u. Seen left conn conn u k) same_hub
     (subst (λ n. Seen left n n h k) same_conn

@@ -2,7 +2,7 @@ use Rattle.std.proofs.Common.{inl, inr, refl, sym, ◌∙◌}
 use Rattle.sq_calls.proofs.MomentLaws.{timely_and, timely_one}
 use Rattle.sq_control.specs.ControlViews.{desk_of}
 use Rattle.sq_control.specs.Attending.{IsReread, Seen}
-use Rattle.sq_control.proofs.AttendLaws.{asked_of, going_fails, going_on, going_over, going_reread, going_stops, going_unread, going_unwritten, same_texts, unwritten}
+use Rattle.sq_control.proofs.AttendLaws.{asked_of, going_fails, going_on, going_over, going_reread, going_stops, going_unread, going_unwritten, same_texts, timely_still, unwritten}
 use Rattle.sq_control.proofs.attending.attend.Goals as goal
 
 pub returns-in-Err-clause-attends : goal.returns-in-Err-clause-attends
@@ -49,6 +49,7 @@ returns-in-Err-write_reread-clause-attends g c =
     let one : IsReread (g.I.F.Files.texts c.orders.files) c.args.conf.now was c.reread-reread.result is_now =
     record {
       adds = r.adds;
+      opened = r.opened;
       made = r.made;
       asked = asked_of _ _ _ _ _ _ _ _ r.asks;
       at = r.at;
@@ -74,8 +75,9 @@ returns-in-Err-write_reread-clause-attends g c =
 pub returns-in-Err-write_reread-clause-timely : goal.returns-in-Err-write_reread-clause-timely
 returns-in-Err-write_reread-clause-timely g c =
     let told = g.K.TellsJournal.told (desk_of c.orders.control) in
-    timely_and _ (g.B.Beside.moments c.orders.beside) _ _ told _ c.orders.invariant.timely
-    (timely_one c.now-now.result _ _ told _ c.now-now.ensures.moment c.reread-reread.ensures.grew)
+    timely_still (sym c.renew.ensures.moments)
+    (timely_and _ (g.B.Beside.moments c.orders.beside) _ _ told _ c.orders.invariant.timely
+    (timely_one c.now-now.result _ _ told _ c.now-now.ensures.moment c.reread-reread.ensures.grew))
 
 pub returns-then-is_over-clause-attends : goal.returns-then-is_over-clause-attends
 returns-then-is_over-clause-attends g c =
@@ -104,6 +106,7 @@ returns-then-is_over-clause-attends g c =
     let one : IsReread (g.I.F.Files.texts c.orders.files) c.args.conf.now was c.reread-reread.result is_now =
     record {
       adds = r.adds;
+      opened = r.opened;
       made = r.made;
       asked = asked_of _ _ _ _ _ _ _ _ r.asks;
       at = r.at;
@@ -127,8 +130,9 @@ returns-then-is_over-clause-attends g c =
 pub returns-then-is_over-clause-timely : goal.returns-then-is_over-clause-timely
 returns-then-is_over-clause-timely g c =
     let told = g.K.TellsJournal.told (desk_of c.orders.control) in
-    timely_and _ (g.B.Beside.moments c.orders.beside) _ _ told _ c.orders.invariant.timely
-    (timely_one c.now-now.result _ _ told _ c.now-now.ensures.moment c.reread-reread.ensures.grew)
+    timely_still (sym c.renew.ensures.moments)
+    (timely_and _ (g.B.Beside.moments c.orders.beside) _ _ told _ c.orders.invariant.timely
+    (timely_one c.now-now.result _ _ told _ c.now-now.ensures.moment c.reread-reread.ensures.grew))
 
 pub orders-preserved : goal.orders-preserved
 orders-preserved g c =
@@ -157,6 +161,7 @@ orders-preserved g c =
     let one : IsReread (g.I.F.Files.texts c.orders.files) c.args.conf.now was c.reread-reread.result is_now =
     record {
       adds = r.adds;
+      opened = r.opened;
       made = r.made;
       asked = asked_of _ _ _ _ _ _ _ _ r.asks;
       at = r.at;
@@ -187,9 +192,10 @@ orders-preserved g c =
           (λ e. absurd (cc (sym (c.is_over.ensures e) ∙ c.if-is_over.false))) c.in-Ok-write_reread.ensures.ok
           c.in-Ok-Reconfigure.ensures.cause.quiet c.in-Ok-write_reread.ensures.cause.quiet;
       texts = r.texts ∙ c.orders.invariant.texts;
-      timely = timely_and _ (g.B.Beside.moments c.orders.beside) _ _ was.desk.told _ c.orders.invariant.timely
-          (timely_one c.now-now.result _ _ was.desk.told is_now.desk.told c.now-now.ensures.moment r.grew);
-      callable = c.now-now.ensures.callable c.orders.invariant.callable;
+      timely = timely_still (sym c.renew.ensures.moments)
+          (timely_and _ (g.B.Beside.moments c.orders.beside) _ _ was.desk.told _ c.orders.invariant.timely
+          (timely_one c.now-now.result _ _ was.desk.told is_now.desk.told c.now-now.ensures.moment r.grew));
+      callable = c.renew.ensures.callable (c.now-now.ensures.callable c.orders.invariant.callable);
     }
 
 pub returns-in-Ok-Shutdown-clause-attends : goal.returns-in-Ok-Shutdown-clause-attends
