@@ -1,5 +1,5 @@
 -- What a desk's call adds to the journal, and what it counts.
-use Rattle.std.specs.Prelude.{◌≡◌, ℕ, ◌+◌, ◌≤◌, max, List, ◌∷◌, Some, None, IfSome, Result, Ok, Err}
+use Rattle.std.specs.Prelude.{◌≡◌, ℕ, ◌+◌, ◌≤◌, max, Bool, true, false, List, ◌∷◌, Some, None, IfSome, Result, Ok, Err}
 use Rattle.std.specs.declared.option.Option.{Option}
 use Rattle.sq_outside.specs.Causes.{raised}
 use Rattle.sq_base.specs.Addresses.{Address}
@@ -95,6 +95,17 @@ RefusesAt first now e epoch place old (Err (fault.Engine refusal.WantOfMemory)) 
 RefusesAt first now e epoch place old (Err (fault.Engine r)) = IfSome old
     (λ h. RefusesClass first h (noted_at now h) e epoch place r)
 RefusesAt first now e epoch place old r = Unit {0}
+
+-- whether the call reported that the desk has stopped, or that its journal failed
+abbrev pub reports_stop : {A : Type 0} → Result A DeskFault → Bool
+reports_stop (Err fault.Stopped) = true
+reports_stop (Err fault.JournalFault) = true
+reports_stop r = false
+
+-- the machine refused nothing
+abbrev pub IsUnrefused : {A : Type 0} → Result A DeskFault → Type 0
+IsUnrefused (Err (fault.Engine r)) = ⊥
+IsUnrefused r = Unit {0}
 
 -- the count rose by one where the call was refused or its note failed, up to its limit, and stayed
 -- otherwise

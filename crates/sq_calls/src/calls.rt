@@ -10,7 +10,7 @@ ghost use Rattle.sq_machine.specs.declared.entries.Told.TheVariants as answer;
 ghost use Rattle.sq_calls.specs.declared.faults.DeskFault.{DeskFault as Fault};
 ghost use Rattle.sq_calls.specs.declared.faults.DeskFault.TheVariants as fault;
 ghost use Rattle.sq_calls.specs.Legality.{Beginning, IsStated};
-ghost use Rattle.sq_calls.specs.Telling.{CountsReconfigured, CountsLine, CountsRefusal, IsAsking, IsClosing, IsDead, IsFailed, IsLine, IsOpening, IsReread, IsStarted, IsStep, IsStepTold, IsTakeTold, IsTaking, MayAct, Notes, NotesAs, Refuses, RefusesAt, got_told};
+ghost use Rattle.sq_calls.specs.Telling.{CountsReconfigured, CountsLine, CountsRefusal, IsAsking, IsClosing, IsDead, IsFailed, IsLine, IsOpening, IsReread, IsStarted, IsStep, IsStepTold, IsTakeTold, IsTaking, IsUnrefused, MayAct, Notes, NotesAs, Refuses, RefusesAt, got_told, reports_stop};
 
 use crate::faults::DeskFault;
 use sq_base::{Addr, CheckNo, ConnNo, EpochNo, Moment, ProcNo, Request, Texts, WantOfMemory};
@@ -110,6 +110,9 @@ pub trait HelperCalls: TellsJournal {
     /// The words of the program of the class at a place of a live epoch, if there is such a class, where it tells that.
     ghost programs: { Self → ℕ → ℕ → Option (Option (List (List ℕ))) } = { λ _ _ _. None };
 
+    /// Whether its last call reported that it has stopped, or that its journal failed.
+    ghost is_stopped: { Self → Bool };
+
     /// A process of the class at a place of an epoch was started: its number.
     fn started(
         &mut self,
@@ -124,6 +127,7 @@ pub trait HelperCalls: TellsJournal {
         ensures refuses { RefusesAt Self.first now (λ name. event.Started epoch name) epoch class
             (Self.told self.old) result }
         ensures refused { CountsRefusal (Self.refused self.old) (Self.refused self.new) result }
+        ensures stopped { is_stopped self.new ≡ reports_stop result }
         ensures made { Self.made self.new ≡ Self.made self.old };
 
     /// A start of the class at a place of an epoch failed.
@@ -140,6 +144,7 @@ pub trait HelperCalls: TellsJournal {
         ensures refuses { RefusesAt Self.first now (λ name. event.StartFail epoch name) epoch class
             (Self.told self.old) result }
         ensures refused { CountsRefusal (Self.refused self.old) (Self.refused self.new) result }
+        ensures stopped { is_stopped self.new ≡ reports_stop result }
         ensures made { Self.made self.new ≡ Self.made self.old };
 
     /// A process wrote a line.
@@ -155,6 +160,7 @@ pub trait HelperCalls: TellsJournal {
         ensures refuses { Refuses Self.first now (event.Line proc bytes.now) (Self.told self.old)
             result }
         ensures refused { CountsLine (Self.refused self.old) (Self.refused self.new) result }
+        ensures stopped { is_stopped self.new ≡ reports_stop result }
         ensures made { Self.made self.new ≡ Self.made self.old };
 
     /// A process died. It takes no memory.
@@ -164,13 +170,17 @@ pub trait HelperCalls: TellsJournal {
         ensures refuses { Refuses Self.first now (event.Died proc) (Self.told self.old) result }
         ensures memory { IsErrOf result fault.WantOfMemory → ⊥ }
         ensures refused { CountsRefusal (Self.refused self.old) (Self.refused self.new) result }
+        ensures stopped { is_stopped self.new ≡ reports_stop result }
         ensures made { Self.made self.new ≡ Self.made self.old };
 
-    /// The next act that is due, which counts as made with this call. No program comes or goes with it.
+    /// The next act that is due, which counts as made with this call. The machine refuses none. No program comes or goes with
+    /// it.
     fn act(&mut self, alloc: Global, now: Moment) -> Result<Option<Act>, DeskFault>
         ensures told { MayAct Self.first now (Self.told self.old) (Self.told self.new) result }
         ensures refuses { Refuses Self.first now event.Act (Self.told self.old) result }
+        ensures unrefused { IsUnrefused result }
         ensures refused { CountsRefusal (Self.refused self.old) (Self.refused self.new) result }
+        ensures stopped { is_stopped self.new ≡ reports_stop result }
         ensures made { Self.made self.new ≡ Self.made self.old }
         ensures programs { programs self.new ≡ programs self.old };
 

@@ -1,6 +1,7 @@
 //! Why a call of a desk was not made.
 ghost use Rattle.std.specs.Prelude.{◌≡◌};
 ghost use Rattle.sq_calls.specs.Faults.{fault_of};
+ghost use Rattle.sq_calls.specs.Telling.{reports_stop};
 
 use sq_machine::Refusal;
 use thiserror::Error;
@@ -32,4 +33,11 @@ impl DeskFault {
             other => DeskFault::Engine(other),
         }
     }
+}
+
+/// Whether a call reported that the desk has stopped, or that its journal failed.
+pub fn reports_stop<T>(gave: &Result<T, DeskFault>) -> bool
+    ensures { result ≡ reports_stop gave.now }
+{
+    matches!(gave, Err(DeskFault::Stopped | DeskFault::JournalFault))
 }

@@ -13,4 +13,4 @@ mod calls;
 mod faults;
 
 pub use calls::{ConnCalls, ControlCalls, DeskCalls, HelperCalls, TellsJournal};
-pub use faults::DeskFault;
+pub use faults::{DeskFault, reports_stop};
