@@ -4,3 +4,4 @@ pub mod Memory
 pub mod Walk
 pub mod PipeViews
 pub mod Pipes
+pub mod Waiting

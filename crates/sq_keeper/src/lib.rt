@@ -10,7 +10,7 @@
 //! `write_question` writes a question's line piece by piece, without memory. `Pipes` keeps the writing half of each process
 //! that was started, found by the process's number: `send` writes a question to one and closes it where that fails, `stop`
 //! closes one, and `sweep` lets go of those that were closed. Room for one more is made before a process is started, so `put`
-//! takes no memory.
+//! takes no memory. `has_waited` says whether a process has had as long as it may owe an answer.
 #![tactic(auto)]
 
 mod desk;
@@ -19,6 +19,7 @@ mod line_buffer;
 mod mem_desk;
 mod pipes;
 mod questions;
+mod waiting;
 
 pub use desk::{Handed, LineDesk, LineEnd};
 pub use keeper::{KeeperEnd, hand, read_lines};
@@ -26,3 +27,4 @@ pub use line_buffer::LineBuffer;
 pub use mem_desk::MemDesk;
 pub use pipes::{Pipe, Pipes, SendEnd};
 pub use questions::write_question;
+pub use waiting::has_waited;

@@ -4,7 +4,8 @@ use Rattle.std.specs.Prelude.{position}
 use Rattle.std.specs.declared.option.Option.{Option}
 use Rattle.std.proofs.lemmas.List.Quantifiers.{position-Some}
 use Rattle.std.proofs.lemmas.Option.{slice_get-get_or}
-use Rattle.sq_rewrite.specs.PumpRounds.{TakesWaited, has_waited}
+use Rattle.sq_keeper.specs.Waiting.{has_waited}
+use Rattle.sq_rewrite.specs.PumpRounds.{TakesWaited}
 use Rattle.sq_rewrite.specs.declared.unread.UnreadHalf.{UnreadHalf}
 
 pub taken_there : {P : Type 0} (moment : ℕ) (old new : List (UnreadHalf P)) (found : Option ℕ) (place : ℕ)

@@ -1,8 +1,9 @@
 -- What a round of a rewriter's pump does: it hands out halves, makes a turn, and ends a process
 -- that has waited for its keeper's thread.
-use Rattle.std.specs.Prelude.{◌≡◌, ◌⊎◌, ℕ, ◌+◌, ◌-◌, ◌++◌, Bool, true, false, not, nat_lt, List, [], Some, None, position, slice_get, take, drop}
+use Rattle.std.specs.Prelude.{◌≡◌, ◌⊎◌, ℕ, ◌+◌, ◌++◌, Bool, true, false, List, [], Some, None, position, slice_get, take, drop}
 use Rattle.std.specs.declared.option.Option.{Option}
 use Rattle.sq_keeper.specs.Pipes.{HalfTells}
+use Rattle.sq_keeper.specs.Waiting.{has_waited}
 use Rattle.sq_outside.specs.Causes.{Rose}
 use Rattle.sq_outside.specs.World.{GivesMoment}
 use Rattle.sq_rewrite.specs.Handing.{HandsDeath}
@@ -14,15 +15,8 @@ use Rattle.sq_rewrite.specs.declared.turns.RewriterTurn.{RewriterTurn}
 use Rattle.sq_rewrite.specs.declared.turns.RewriterTurn.TheVariants as turn
 use Rattle.sq_rewrite.specs.declared.unread.UnreadHalf.{UnreadHalf}
 
--- for how many milliseconds a process may owe an answer
-abbrev pub answer_time : ℕ
-answer_time = 60000
-
--- whether so much time has passed between two moments
-abbrev pub has_waited : ℕ → ℕ → Bool
-has_waited since now = not (nat_lt (now - since) answer_time)
-
--- at this moment none of these halves has waited for its keeper for so long
+-- at this moment none of these halves has waited for its keeper for as long as its process may owe
+-- an answer
 abbrev pub NoneWaited : {P : Type 0} → ℕ → List (UnreadHalf P) → Type 0
 NoneWaited moment halves = position (λ half. has_waited half.since moment) halves ≡ None
 

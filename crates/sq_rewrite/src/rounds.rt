@@ -1,8 +1,9 @@
 //! A round of a rewriter's pump: a turn, and the end of a process that no keeper reads.
 ghost use Rattle.std.specs.Prelude.{◌≡◌, true, false, IfNone, IfSome, position};
 ghost use Rattle.sq_keeper.specs.Pipes.{half_tells};
+ghost use Rattle.sq_keeper.specs.Waiting.{has_waited};
 ghost use Rattle.sq_rewrite.specs.Handing.{HandsDeath};
-ghost use Rattle.sq_rewrite.specs.PumpRounds.{EndsWaited, NoneWaited, TakesWaited, TurnsAndEnds, has_waited};
+ghost use Rattle.sq_rewrite.specs.PumpRounds.{EndsWaited, NoneWaited, TakesWaited, TurnsAndEnds};
 ghost use Rattle.sq_rewrite.specs.LineViews.{half_since};
 ghost use Rattle.sq_rewrite.specs.Turning.{ClosesHalf};
 

@@ -2,18 +2,15 @@
 ghost use Rattle.std.specs.Prelude.{◌≡◌, ◌≤◌};
 ghost use Rattle.std.specs.Io.KnownBytes.{IsAtEnd};
 ghost use Rattle.sq_keeper.specs.Lines.{ReadsLines};
+ghost use Rattle.sq_keeper.specs.Waiting.{has_waited};
 ghost use Rattle.sq_outside.specs.Causes.{Rose};
 ghost use Rattle.sq_rewrite.specs.LineViews.{half_from, half_proc, half_since};
-ghost use Rattle.sq_rewrite.specs.PumpRounds.{has_waited};
 
 use sq_base::{Moment, ProcNo};
-use sq_keeper::{KeeperEnd, LineDesk, read_lines};
+use sq_keeper::{KeeperEnd, LineDesk, has_waited, read_lines};
 use sq_outside::Source;
 use std::alloc::Global;
 use std::sync::Wait;
-
-// A process may owe an answer for so many milliseconds. The adapter that starts it ends it then, where a keeper reads it.
-const ANSWER_TIME: u64 = 60_000;
 
 /// The half of a process that is read, with the number that the rewriter gave for it, and the moment at which its start was
 /// noted. A pump makes it then, and the parts stay together: what is read of the half is handed on as of this process.
@@ -36,7 +33,7 @@ impl<P> UnreadHalf<P> {
     pub(crate) fn has_waited(&self, now: Moment) -> bool
         ensures { result ≡ has_waited (half_since self.now) now }
     {
-        now.0.saturating_sub(self.since.0) >= ANSWER_TIME
+        has_waited(self.since, now)
     }
 
     /// The number of its process.
