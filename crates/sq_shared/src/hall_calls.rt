@@ -4,7 +4,7 @@ ghost use Rattle.std.specs.Prelude.{◌≡◌, ◌+◌, ◌<◌, [], true, IfOk,
 ghost use Rattle.sq_calls.specs.declared.faults.DeskFault.TheVariants as fault;
 ghost use Rattle.sq_calls.specs.Legality.{IsStated};
 ghost use Rattle.sq_calls.specs.Moments.{AtMoment};
-ghost use Rattle.sq_calls.specs.Telling.{IsAsking, IsClosing, IsDead, IsFailed, IsLine, IsOpening, IsReread, IsStarted, IsStep, IsStepTold, IsTakeTold, IsTaking, MayAct, Notes, NotesAs, got_told};
+ghost use Rattle.sq_calls.specs.Telling.{IsAsking, IsClosing, IsDead, IsFailed, IsLine, IsOpening, IsReread, IsStarted, IsStep, IsStepTold, IsTakeTold, IsTaking, IsUnrefused, MayAct, Notes, NotesAs, got_told};
 ghost use Rattle.sq_machine.specs.declared.entries.Told.TheVariants as answer;
 ghost use Rattle.sq_shared.specs.Books.{SharesLine, SharesMade, SharesRefusal};
 ghost use Rattle.sq_shared.specs.Waking.{after_line, after_step, may_ask, one_more, raised_if};
@@ -325,7 +325,7 @@ impl<D: DeskCalls, B: Ledgers> Hall<D, B> {
         gave
     }
 
-    /// The next act that is due.
+    /// The next act that is due. The machine refuses none.
     #[tactic(auto, using(crate::proofs::BookLaws::counted_act, crate::proofs::BookLaws::kept_refusal))]
     pub fn act(
         &mut self,
@@ -335,6 +335,7 @@ impl<D: DeskCalls, B: Ledgers> Hall<D, B> {
     ) -> Result<Option<Act>, DeskFault>
         requires { 0 < refused.old.parts }
         ensures noted { MayAct D.first now (D.told self.old.desk) (D.told self.new.desk) result }
+        ensures unrefused { IsUnrefused result }
         ensures refused { SharesRefusal refused.old.amount refused.new.amount result }
         ensures parts { refused.new.parts ≡ refused.old.parts }
         ensures changes { self.new.changes ≡ self.old.changes }

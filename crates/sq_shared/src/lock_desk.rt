@@ -9,7 +9,7 @@ use crate::ledgers::{Ledgers, Refusals};
 use crate::room::Room;
 use crate::waits::{wake_after_line, wake_all_after, wake_if_stopped, wake_pump_after};
 use sq_base::{EpochNo, Moment, ProcNo, Texts, WantOfMemory};
-use sq_calls::{DeskCalls, DeskFault, HelperCalls, TellsJournal};
+use sq_calls::{DeskCalls, DeskFault, HelperCalls, TellsJournal, reports_stop};
 use sq_channel::Got;
 use sq_machine::Act;
 use sq_rules::Config;
@@ -17,13 +17,16 @@ use std::alloc::Global;
 use std::sync::ledger::Share;
 use std::sync::{Arc, Wait};
 
-/// The desk behind its lock, with this thread's share of its refusals. It tells no journal, since other threads note
+/// The desk behind its lock, with this thread's share of its refusals, and whether its last call from here reported that it has
+/// stopped. It tells no journal, since other threads note
 /// entries too. It has the calls of helper processes; those of sessions and of the control want shares of other books.
 #[derive(Drop)]
 pub struct LockDesk<'a, R: Wait, D: DeskCalls, B: Ledgers> {
     rt: &'a R,
     room: &'a Room<D, B>,
     refused: Share<Refusals<B>>,
+    // Whether its last call reported that the desk has stopped.
+    stopped: bool,
     ghost parts: { 0 < refused.parts },
 }
 
@@ -36,7 +39,17 @@ impl<'a, R: Wait, D: DeskCalls, B: Ledgers> LockDesk<'a, R, D, B> {
     ) -> LockDesk<'a, R, D, B>
         requires { 0 < refused.parts }
     {
-        LockDesk { rt, room, refused }
+        LockDesk {
+            rt,
+            room,
+            refused,
+            stopped: false,
+        }
+    }
+
+    /// Whether no more is to be done.
+    pub fn is_done(&self) -> bool {
+        self.room.hall.lock(self.rt).is_done()
     }
 }
 
@@ -55,6 +68,8 @@ impl<'a, R: Wait, D: DeskCalls, B: Ledgers> TellsJournal for LockDesk<'a, R, D, 
 }
 
 impl<'a, R: Wait, D: DeskCalls, B: Ledgers> HelperCalls for LockDesk<'a, R, D, B> {
+    ghost is_stopped = { λ s. s.stopped };
+
     #[tactic(auto, using(crate::proofs::ShareLaws::untold_start))]
     fn started(
         &mut self,
@@ -68,6 +83,7 @@ impl<'a, R: Wait, D: DeskCalls, B: Ledgers> HelperCalls for LockDesk<'a, R, D, B
             .hall
             .lock(self.rt)
             .started(alloc, epoch, class, now, &mut self.refused);
+        self.stopped = reports_stop(&gave);
         wake_pump_after(self.rt, self.room, &gave);
         gave
     }
@@ -85,6 +101,7 @@ impl<'a, R: Wait, D: DeskCalls, B: Ledgers> HelperCalls for LockDesk<'a, R, D, B
             .hall
             .lock(self.rt)
             .start_failed(alloc, epoch, class, now, &mut self.refused);
+        self.stopped = reports_stop(&gave);
         wake_all_after(self.rt, self.room, &gave);
         gave
     }
@@ -101,6 +118,7 @@ impl<'a, R: Wait, D: DeskCalls, B: Ledgers> HelperCalls for LockDesk<'a, R, D, B
         let gave = hall.line(alloc, proc, bytes, now, &mut self.refused);
         let place = hall.place_after(&gave);
         drop(hall);
+        self.stopped = reports_stop(&gave);
         wake_after_line(self.rt, self.room, &gave, place);
         gave
     }
@@ -112,6 +130,7 @@ impl<'a, R: Wait, D: DeskCalls, B: Ledgers> HelperCalls for LockDesk<'a, R, D, B
             .hall
             .lock(self.rt)
             .died(proc, now, &mut self.refused);
+        self.stopped = reports_stop(&gave);
         wake_all_after(self.rt, self.room, &gave);
         gave
     }
@@ -123,6 +142,7 @@ impl<'a, R: Wait, D: DeskCalls, B: Ledgers> HelperCalls for LockDesk<'a, R, D, B
             .hall
             .lock(self.rt)
             .act(alloc, now, &mut self.refused);
+        self.stopped = reports_stop(&gave);
         wake_if_stopped(self.rt, self.room, &gave);
         gave
     }

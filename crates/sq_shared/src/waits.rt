@@ -8,7 +8,7 @@ use crate::ledgers::Ledgers;
 use crate::older::may_ask;
 use crate::room::Room;
 use sq_base::QuestionNo;
-use sq_calls::{DeskCalls, DeskFault};
+use sq_calls::{DeskCalls, DeskFault, reports_stop};
 use sq_channel::Got;
 use sq_model::Stepped;
 use std::sync::Wait;
@@ -76,18 +76,13 @@ pub fn set_done<R: Wait, D: DeskCalls, B: Ledgers>(rt: &R, room: &Room<D, B>) {
     room.wake_pump();
 }
 
-// Whether the desk has stopped.
-fn has_stopped<T>(gave: &Result<T, DeskFault>) -> bool {
-    matches!(gave, Err(DeskFault::Stopped | DeskFault::JournalFault))
-}
-
 /// Where a call shows that the desk has stopped, all who wait learn it.
 pub fn wake_if_stopped<R: Wait, D: DeskCalls, B: Ledgers, T>(
     rt: &R,
     room: &Room<D, B>,
     gave: &Result<T, DeskFault>,
 ) {
-    if has_stopped(gave) {
+    if reports_stop(gave) {
         room.hall.lock(rt).give_up();
         room.wake_all();
     }
