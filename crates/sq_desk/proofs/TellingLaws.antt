@@ -34,7 +34,7 @@ use Rattle.sq_engine.specs.Lines.{got_told as by_machine}
 use Rattle.sq_engine.specs.Stepping.{after_step_now, epoch_of, step_now, stepped_told}
 use Rattle.sq_journal.specs.Noting.{with_entry}
 use Rattle.sq_calls.specs.Legality.{Beginning, IsNameOf}
-use Rattle.sq_calls.specs.Telling.{CountsReconfigured, CountsLine, CountsRefusal, IsEventOf, IsLine, IsReread, IsStepTold, IsTakeTold, MayAct, Notes, NotesAs, Refuses, RefusesAt, got_told}
+use Rattle.sq_calls.specs.Telling.{CountsReconfigured, CountsLine, CountsRefusal, IsEventOf, IsLine, IsReread, IsStepTold, IsTakeTold, IsUnrefused, MayAct, Notes, NotesAs, Refuses, RefusesAt, got_told, reports_stop}
 use Rattle.sq_calls.specs.declared.faults.DeskFault.{DeskFault}
 use Rattle.sq_calls.specs.declared.faults.DeskFault.TheVariants as fault
 use Rattle.sq_notes.specs.Calling.{Acts, DeskView, Makes, Reads, Rereads, after_died}
@@ -154,6 +154,16 @@ makes_made tell next now event after v w (Err (fault.Engine r)) m = ap (λ z. So
 makes_made tell next now event after v w (Err fault.JournalFault) m = ap (λ z. Some z.made) m.notes
 makes_made tell next now event after v w (Err fault.WantOfMemory) m = ap (λ z. Some z.made) m.notes
 
+-- whether the desk has stopped after a call
+makes_stopped : {A : Type 0} (tell : A → Told) (next : Next) (now : ℕ) (event : Event) (after : State) (v w : DeskView)
+    (r : Result A DeskFault) → Makes tell next now event after v r w → w.notes.stopped ≡ reports_stop r
+makes_stopped tell next now event after v w (Ok a) m = ap (λ z. z.stopped) m.notes ∙ m.going
+makes_stopped tell next now event after v w (Err fault.Stopped) m = ap (λ z. z.stopped) m.notes ∙ m.was
+makes_stopped tell next now event after v w (Err (fault.Engine refusal.WantOfMemory)) m = absurd m
+makes_stopped tell next now event after v w (Err (fault.Engine r)) m = ap (λ z. z.stopped) m.notes ∙ m.going
+makes_stopped tell next now event after v w (Err fault.JournalFault) m = ap (λ z. z.stopped) m.notes
+makes_stopped tell next now event after v w (Err fault.WantOfMemory) m = ap (λ z. z.stopped) m.notes ∙ m.going
+
 -- a step is told with the name of the class
 step_told : (s : State) (epoch : ℕ) (a : Stepped) → IsStepTold a (stepped_told s epoch a)
 step_told s epoch (stepped.Took c) = (_, refl)
@@ -183,6 +193,7 @@ telling_class {first = first} tell said moment event p after v w r d named law m
           (answered_at tell (state_of v.engine) now event p r law) m;
       refuses = makes_refuses_at first tell said moment event p after v w r d law m;
       refused = makes_refused tell said now (event p.epoch name) after v w r m;
+      stopped = makes_stopped tell said now (event p.epoch name) after v w r m;
       made = makes_made tell said now (event p.epoch name) after v w r m;
     }
   where
@@ -207,6 +218,7 @@ telling {first = first} tell said moment event after v w r d law m =
           (answered tell (state_of v.engine) now event r law) m;
       refuses = makes_refuses first tell said moment event after v w r d law m;
       refused = makes_refused tell said now event after v w r m;
+      stopped = makes_stopped tell said now event after v w r m;
       made = makes_made tell said now event after v w r m;
     }
 
@@ -356,6 +368,22 @@ acts_refused v w now (Err (fault.Engine r)) m = absurd m
 acts_refused v w now (Err fault.JournalFault) m = counted_once _ _ (ap (λ z. z.refusals) m.notes)
 acts_refused v w now (Err fault.WantOfMemory) m = stays _ _ (ap (λ z. z.refusals) m.notes)
 
+acts_unrefused : (v w : DeskView) (now : ℕ) (r : Result (Option Act) DeskFault) → Acts now v r w → IsUnrefused r
+acts_unrefused v w now (Ok a) m = tt
+acts_unrefused v w now (Err fault.Stopped) m = tt
+acts_unrefused v w now (Err (fault.Engine r)) m = m
+acts_unrefused v w now (Err fault.JournalFault) m = tt
+acts_unrefused v w now (Err fault.WantOfMemory) m = tt
+
+acts_stopped : (v w : DeskView) (now : ℕ) (r : Result (Option Act) DeskFault) → Acts now v r w
+    → w.notes.stopped ≡ reports_stop r
+acts_stopped v w now (Ok None) m = ap (λ z. z.stopped) m.notes ∙ m.going
+acts_stopped v w now (Ok (Some a)) m = ap (λ z. z.stopped) m.notes ∙ m.going
+acts_stopped v w now (Err fault.Stopped) m = ap (λ z. z.stopped) m.notes ∙ m.was
+acts_stopped v w now (Err (fault.Engine r)) m = absurd m
+acts_stopped v w now (Err fault.JournalFault) m = ap (λ z. z.stopped) m.notes
+acts_stopped v w now (Err fault.WantOfMemory) m = ap (λ z. z.stopped) m.notes ∙ m.going
+
 acts_made : (v w : DeskView) (now : ℕ) (r : Result (Option Act) DeskFault) → Acts now v r w
     → Some w.notes.made ≡ Some v.notes.made
 acts_made v w now (Ok None) m = ap (λ z. Some z.made) m.notes
@@ -435,6 +463,15 @@ reads_refused v w now k line (Err (fault.Engine r)) m = counted_once _ _ (ap (λ
 reads_refused v w now k line (Err fault.JournalFault) m = counted_once _ _ (ap (λ z. z.refusals) m.notes)
 reads_refused v w now k line (Err fault.WantOfMemory) m = stays _ _ (ap (λ z. z.refusals) m.notes)
 
+reads_stopped : (v w : DeskView) (now k : ℕ) (line : List ℕ) (r : Result Got DeskFault) → Reads now k line v r w
+    → w.notes.stopped ≡ reports_stop r
+reads_stopped v w now k line (Ok g) m = ap (λ z. z.stopped) m.notes ∙ m.going
+reads_stopped v w now k line (Err fault.Stopped) m = ap (λ z. z.stopped) m.notes ∙ m.was
+reads_stopped v w now k line (Err (fault.Engine refusal.WantOfMemory)) m = absurd m
+reads_stopped v w now k line (Err (fault.Engine r)) m = ap (λ z. z.stopped) m.notes ∙ m.going
+reads_stopped v w now k line (Err fault.JournalFault) m = ap (λ z. z.stopped) m.notes
+reads_stopped v w now k line (Err fault.WantOfMemory) m = ap (λ z. z.stopped) m.notes ∙ m.going
+
 reads_made : (v w : DeskView) (now k : ℕ) (line : List ℕ) (r : Result Got DeskFault) → Reads now k line v r w
     → Some w.notes.made ≡ Some v.notes.made
 reads_made v w now k line (Ok g) m = ap (λ z. Some z.made) m.notes
@@ -503,7 +540,9 @@ act_tells {first = first} v w moment r d m p =
     record {
       told = acts_told first v w moment r d m p;
       refuses = acts_refuses first v w moment now r m;
+      unrefused = acts_unrefused v w now r m;
       refused = acts_refused v w now r m;
+      stopped = acts_stopped v w now r m;
       made = acts_made v w now r m;
       programs = acts_programs v w now r m;
     }
@@ -516,6 +555,7 @@ line_tells {first = first} v w moment k line r d m =
       told = reads_told first v w moment k line r d m;
       refuses = reads_refuses first v w moment k line r d m;
       refused = reads_refused v w now k line r m;
+      stopped = reads_stopped v w now k line r m;
       made = reads_made v w now k line r m;
     }
 

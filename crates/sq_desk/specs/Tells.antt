@@ -16,7 +16,7 @@ use Rattle.sq_model.specs.Says.{class_in}
 use Rattle.sq_engine.specs.EngineViews.{state_of}
 use Rattle.sq_calls.specs.declared.faults.DeskFault.{DeskFault}
 use Rattle.sq_calls.specs.Legality.{Beginning, IsNameOf}
-use Rattle.sq_calls.specs.Telling.{CountsLine, CountsReconfigured, CountsRefusal, IsReread, MayAct, Notes, NotesAs, Refuses, RefusesAt, got_told}
+use Rattle.sq_calls.specs.Telling.{CountsLine, CountsReconfigured, CountsRefusal, IsReread, IsUnrefused, MayAct, Notes, NotesAs, Refuses, RefusesAt, got_told, reports_stop}
 use Rattle.sq_notes.specs.Calling.{DeskView}
 
 -- the count of refusals as it is shown
@@ -35,6 +35,7 @@ pub record Tells {A : Type 0} (first : Beginning) (moment : ℕ) (tell : A → T
       new.notes.history result
   pub refuses : Refuses (Some first) moment called old.notes.history result
   pub refused : CountsRefusal (shown old) (shown new) result
+  pub stopped : new.notes.stopped ≡ reports_stop result
   pub made : Some new.notes.made ≡ Some old.notes.made
 
 -- the same where the answer is as R says
@@ -60,6 +61,7 @@ pub record TellsClass {A : Type 0} (first : Beginning) (moment : ℕ) (tell : A 
   pub refuses : RefusesAt (Some first) moment event_of place.epoch place.class old.notes.history
       result
   pub refused : CountsRefusal (shown old) (shown new) result
+  pub stopped : new.notes.stopped ≡ reports_stop result
   pub made : Some new.notes.made ≡ Some old.notes.made
 
 -- a call for a line of a process
@@ -69,6 +71,7 @@ pub record TellsLine (first : Beginning) (moment proc : ℕ) (line : List ℕ) (
       new.notes.history result
   pub refuses : Refuses (Some first) moment (event.Line proc line) old.notes.history result
   pub refused : CountsLine (shown old) (shown new) result
+  pub stopped : new.notes.stopped ≡ reports_stop result
   pub made : Some new.notes.made ≡ Some old.notes.made
 
 -- a call for the next act
@@ -76,7 +79,9 @@ pub record TellsAct (first : Beginning) (moment : ℕ) (old new : DeskView)
     (result : Result (Option Act) DeskFault) : Type 0 where
   pub told : MayAct (Some first) moment old.notes.history new.notes.history result
   pub refuses : Refuses (Some first) moment event.Act old.notes.history result
+  pub unrefused : IsUnrefused result
   pub refused : CountsRefusal (shown old) (shown new) result
+  pub stopped : new.notes.stopped ≡ reports_stop result
   pub made : Some new.notes.made ≡ Some old.notes.made
   pub programs : programs_of new ≡ programs_of old
 

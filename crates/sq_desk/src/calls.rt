@@ -139,6 +139,8 @@ impl<J: Journal, F: DeskStart> ConnCalls for Desk<J, F> {
 impl<J: Journal, F: DeskStart> HelperCalls for Desk<J, F> {
     ghost programs = { programs_of };
 
+    ghost is_stopped = { λ d. d.notes.stopped };
+
     // Where no start is open, the caller stops the process itself.
     fn started(
         &mut self,
