@@ -1,5 +1,5 @@
 -- What a turn adds to the journal, from what it does.
-use Rattle.std.proofs.Common.{◌≡◌, ◌⊎◌, ℕ, List, [], ◌∷◌, true, Some, None, Ok, IfSome, inl, inr, ⊎_elim, refl, sym, ap, ◌∙◌, subst}
+use Rattle.std.proofs.Common.{◌≡◌, ◌⊎◌, ℕ, Bool, List, [], ◌∷◌, true, Some, None, Ok, IfSome, inl, inr, ⊎_elim, refl, sym, ap, ◌∙◌, subst}
 use Rattle.std.specs.declared.option.Option.{Option}
 use Rattle.sq_base.specs.Replies.{question_text}
 use Rattle.sq_outside.specs.Causes.{Rose}
@@ -22,27 +22,27 @@ use Rattle.sq_helper_threads.specs.declared.turns.Left.TheVariants as left
 use Rattle.sq_helper_threads.specs.declared.turns.Turn.{Turn}
 use Rattle.sq_helper_threads.specs.declared.turns.Turn.TheVariants as turn
 
-reported : {P Q R D : Type 0} (l : Left P Q (AskerOut R)) (m : ℕ) (told : Option History) (refused : ℕ) (r : Turn)
-    (w : PumpView P Q R D)
-    → Reports l m told refused r w → (w.told ≡ told) ⊎ AddsEntryOf l w.first m told w.told
-reported l m told refused (turn.Acted a) w p = ⊎_elim (λ adds. inr adds) (λ same. inl same.0) p.2
-reported l m told refused turn.Ended w p = inl p.0
-reported l m told refused turn.WantOfMemory w p = inl p.0
-reported l m told refused turn.Idle w p = absurd p
+reported : {P Q R D : Type 0} (l : Left P Q (AskerOut R)) (m : ℕ) (told : Option History) (refused : ℕ)
+    (stopped : Bool) (r : Turn) (w : PumpView P Q R D)
+    → Reports l m told refused stopped r w → (w.told ≡ told) ⊎ AddsEntryOf l w.first m told w.told
+reported l m told refused stopped (turn.Acted a) w p = ⊎_elim (λ adds. inr adds) (λ same. inl same.0) p.2
+reported l m told refused stopped turn.Ended w p = inl p.0
+reported l m told refused stopped turn.WantOfMemory w p = inl p.0
+reported l m told refused stopped turn.Idle w p = absurd p
 
 reported_left : {P Q R D : Type 0} (l : Left P Q (AskerOut R)) (m : ℕ) (told : Option History) (refused : ℕ)
-    (r : Turn) (w : PumpView P Q R D)
-    → Reports l m told refused r w → (w.left ≡ None) ⊎ (w.left ≡ Some l)
-reported_left l m told refused (turn.Acted a) w p = inl p.1
-reported_left l m told refused turn.Ended w p = inl p.2
-reported_left l m told refused turn.WantOfMemory w p = inr p.1
-reported_left l m told refused turn.Idle w p = absurd p
+    (stopped : Bool) (r : Turn) (w : PumpView P Q R D)
+    → Reports l m told refused stopped r w → (w.left ≡ None) ⊎ (w.left ≡ Some l)
+reported_left l m told refused stopped (turn.Acted a) w p = inl p.1
+reported_left l m told refused stopped turn.Ended w p = inl p.2
+reported_left l m told refused stopped turn.WantOfMemory w p = inr p.1
+reported_left l m told refused stopped turn.Idle w p = absurd p
 
 follow : {P Q R D : Type 0} (pg : Programs D) (hs : HalfTells Q) (s : PumpStep P Q R D) (l : Left P Q (AskerOut R))
-    (mid : Option History) (refused : ℕ)
-    → IsCaused pg hs s l → Reports l s.moment mid refused s.result s.now → Follows pg hs s mid
-follow pg hs s l mid refused caused p = ⊎_elim (λ same. inl same) (λ adds. inr (l, caused, adds))
-    (reported l s.moment mid refused s.result s.now p)
+    (mid : Option History) (refused : ℕ) (stopped : Bool)
+    → IsCaused pg hs s l → Reports l s.moment mid refused stopped s.result s.now → Follows pg hs s mid
+follow pg hs s l mid refused stopped caused p = ⊎_elim (λ same. inl same) (λ adds. inr (l, caused, adds))
+    (reported l s.moment mid refused stopped s.result s.now p)
 
 none_left : {P Q R D : Type 0} (pg : Programs D) (hs : HalfTells Q) (s : PumpStep P Q R D) → s.now.left ≡ None
     → IfSome s.now.left (IsCaused pg hs s)
@@ -53,21 +53,24 @@ some_left : {P Q R D : Type 0} (pg : Programs D) (hs : HalfTells Q) (s : PumpSte
 some_left pg hs s l some caused = subst (λ o. IfSome o (IsCaused pg hs s)) (sym some) caused
 
 leave : {P Q R D : Type 0} (pg : Programs D) (hs : HalfTells Q) (s : PumpStep P Q R D) (l : Left P Q (AskerOut R))
-    (mid : Option History) (refused : ℕ)
-    → IsCaused pg hs s l → Reports l s.moment mid refused s.result s.now → IfSome s.now.left (IsCaused pg hs s)
-leave pg hs s l mid refused caused p =
+    (mid : Option History) (refused : ℕ) (stopped : Bool)
+    → IsCaused pg hs s l → Reports l s.moment mid refused stopped s.result s.now → IfSome s.now.left (IsCaused pg hs s)
+leave pg hs s l mid refused stopped caused p =
     ⊎_elim (λ none. none_left pg hs s none) (λ some. some_left pg hs s l some caused)
-    (reported_left l s.moment mid refused s.result s.now p)
+    (reported_left l s.moment mid refused stopped s.result s.now p)
 
 -- what an act that is performed notes behind its own entry, and what it leaves
 Did : {P Q R D : Type 0} (pg : Programs D) (hs : HalfTells Q) (s : PumpStep P Q R D) (mid : Option History) → Type 0
 Did pg hs s mid = Follows pg hs s mid × IfSome s.now.left (IsCaused pg hs s)
 
 did : {P Q R D : Type 0} (pg : Programs D) (hs : HalfTells Q) (s : PumpStep P Q R D) (l : Left P Q (AskerOut R))
-    (mid : Option History) (refused : ℕ)
-    → IsCaused pg hs s l → Reports l s.moment mid refused s.result s.now → Did pg hs s mid
+    (mid : Option History) (refused : ℕ) (stopped : Bool)
+    → IsCaused pg hs s l → Reports l s.moment mid refused stopped s.result s.now → Did pg hs s mid
 unfolding Did
-did pg hs s l mid refused caused p = (follow pg hs s l mid refused caused p, leave pg hs s l mid refused caused p)
+did pg hs s l mid refused stopped caused p = (
+  follow pg hs s l mid refused stopped caused p,
+  leave pg hs s l mid refused stopped caused p,
+)
 
 did_none : {P Q R D : Type 0} (pg : Programs D) (hs : HalfTells Q) (s : PumpStep P Q R D) (mid : Option History)
     → s.now.told ≡ mid → s.now.left ≡ None → Did pg hs s mid
@@ -90,7 +93,8 @@ asked pg cf hs s words epoch class u whole program lookup h =
     let same : s.now.told ≡ u.told = ap (λ x. x.told) want.1 in
     (inl same, some_left pg hs s (left.Whole (act.Start epoch class)) (ap (λ x. x.left) want.1) (whole same)))
     (λ taken.
-    did pg hs s (left.Asked epoch class taken.0 taken.1) u.told u.refused (inr (words, program, lookup)) taken.5)
+    did pg hs s (left.Asked epoch class taken.0 taken.1) u.told u.refused u.stopped (inr (words, program, lookup))
+    taken.5)
     h
 
 performed : {P Q R D : Type 0} (t : PumpTells P Q D) (s : PumpStep P Q R D) (a : Act) (u : PumpView P Q R D)
@@ -104,7 +108,7 @@ performed t s (act.Send proc question channel text) u f st p g n whole h =
     ⊎_elim
     (λ same. did_none t.programs t.halves s u.told same.1.told same.1.left)
     (λ failed.
-    did t.programs t.halves s (left.Died proc (act.Send proc question channel text)) u.told u.refused
+    did t.programs t.halves s (left.Died proc (act.Send proc question channel text)) u.told u.refused u.stopped
     (inr (
       question_text channel text,
       subst (λ ps. Changes proc (HasFailed t.halves (question_text channel text)) ps s.now.pipes) p failed.0,
@@ -123,12 +127,12 @@ performed t s (act.Start epoch class) u f st p g n whole h =
     ))
     (λ more.
     ⊎_elim
-    (λ failed. did t.programs t.halves s (left.Failed epoch class) u.told u.refused
+    (λ failed. did t.programs t.halves s (left.Failed epoch class) u.told u.refused u.stopped
     (inr (subst (λ k. Rose k s.now.faults) f failed.1)) failed.3)
     (λ last.
     ⊎_elim
     (λ made.
-    did t.programs t.halves s (left.Started epoch class made.1 made.2) u.told u.refused
+    did t.programs t.halves s (left.Started epoch class made.1 made.2) u.told u.refused u.stopped
     (inr (
       made.0,
       subst (λ q. IfSome (q epoch class) (λ told. Some made.0 ≡ told)) g made.3,
@@ -149,13 +153,15 @@ resumed : {P Q R D : Type 0} (t : PumpTells P Q D) (s : PumpStep P Q R D) (l : L
 resumed t s (left.Whole a) is h =
     performed t s a (record s.before { left = None }) refl refl refl refl refl (λ same. inl is) h
 resumed t s (left.Failed epoch class) is h =
-    did t.programs t.halves s (left.Failed epoch class) s.before.told s.before.refused (inl is) h.0
+    did t.programs t.halves s (left.Failed epoch class) s.before.told s.before.refused s.before.stopped (inl is) h.0
 resumed t s (left.Started epoch class from to) is h =
-    did t.programs t.halves s (left.Started epoch class from to) s.before.told s.before.refused (inl is) h.0
+    did t.programs t.halves s (left.Started epoch class from to) s.before.told s.before.refused s.before.stopped (inl is)
+    h.0
 resumed t s (left.Asked epoch class from to) is h =
-    did t.programs t.halves s (left.Asked epoch class from to) s.before.told s.before.refused (inl is) h.0
+    did t.programs t.halves s (left.Asked epoch class from to) s.before.told s.before.refused s.before.stopped (inl is)
+    h.0
 resumed t s (left.Died proc a) is h =
-    did t.programs t.halves s (left.Died proc a) s.before.told s.before.refused (inl is) h.0
+    did t.programs t.halves s (left.Died proc a) s.before.told s.before.refused s.before.stopped (inl is) h.0
 
 same_told : {P Q R D : Type 0} (v w : PumpView P Q R D) → SameButRefused v w → w.told ≡ v.told
 same_told v w s = ap (λ x. x.told) s.0

@@ -1,3 +1,5 @@
 mod BoardLaws
 mod EntryLaws
 mod LineLaws
+mod RoundLaws
+mod TakingLaws

@@ -4,6 +4,7 @@ pub mod Halves
 pub mod Handing
 pub mod KeeperHalves
 pub mod LineViews
+pub mod PumpRounds
 pub mod Pumps
 pub mod ReaderViews
 pub mod Turning

@@ -1,5 +1,5 @@
 -- What a pump holds.
-use Rattle.std.specs.Prelude.{ℕ, List}
+use Rattle.std.specs.Prelude.{ℕ, Bool, List}
 use Rattle.std.specs.declared.option.Option.{Option}
 use Rattle.sq_outside.specs.World.{Starts}
 use Rattle.sq_keeper.specs.Pipes.{HalfTells}
@@ -23,16 +23,17 @@ abbrev pub Configs : Type 0 → Type 0
 Configs D = D → ℕ → Option (Option Configuration)
 
 -- of the desk: itself, with what it began, where that is told, the journal's entries, the newest
--- first, where they are told, how often it refused, and the reconfigurations that it made, where
--- they are told; of the spawner: the words of the starts that were made, where they are told, and
--- how often it failed; the halves of processes that are written to; those that are read and that no
--- keeper has, of programs and of threads that answer look-ups, and for how many more of each there
--- is room; and what an earlier turn left
+-- first, where they are told, how often it refused, whether its last call reported that it has
+-- stopped, and the reconfigurations that it made, where they are told; of the spawner: the words of
+-- the starts that were made, where they are told, and how often it failed; the halves of processes
+-- that are written to; those that are read and that no keeper has, of programs and of threads that
+-- answer look-ups, and for how many more of each there is room; and what an earlier turn left
 pub record PumpView (P Q R D : Type 0) : Type 0 where
   pub desk : D
   pub first : Option Beginning
   pub told : Option History
   pub refused : ℕ
+  pub stopped : Bool
   pub made : Option ℕ
   pub starts : Starts
   pub faults : ℕ

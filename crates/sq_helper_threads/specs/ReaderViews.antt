@@ -1,4 +1,5 @@
--- The number and the half of a reader, and the configuration by which look-ups are answered.
+-- The number and the half of a reader, and the moment at which the start of its process was noted;
+-- and the configuration by which look-ups are answered.
 use Rattle.std.specs.Prelude.{ℕ}
 use Rattle.std.specs.Arc.{arc_value}
 use Rattle.sq_rules.specs.Configurations.{Configuration}
@@ -7,6 +8,9 @@ use Rattle.sq_helper_threads.specs.declared.reader.Reader.{Reader}
 
 abbrev pub reader_proc : {P : Type 0} → Reader P → ℕ
 reader_proc reader = reader.proc
+
+abbrev pub reader_since : {P : Type 0} → Reader P → ℕ
+reader_since reader = reader.since
 
 abbrev pub reader_from : {P : Type 0} → Reader P → P
 reader_from reader = reader.from

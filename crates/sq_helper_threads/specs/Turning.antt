@@ -1,5 +1,5 @@
 -- What a turn of a pump does.
-use Rattle.std.specs.Prelude.{◌≡◌, ◌⊎◌, ℕ, ◌≤◌, List, [], ◌∷◌, ◌++◌, true, false, Some, None, IfSome, Ok}
+use Rattle.std.specs.Prelude.{◌≡◌, ◌⊎◌, ℕ, ◌≤◌, List, [], ◌∷◌, ◌++◌, Bool, true, false, Some, None, IfSome, Result, Ok, Err}
 use Rattle.std.specs.Arc.{arc_value}
 use Rattle.std.specs.declared.option.Option.{Option}
 use Rattle.sq_base.specs.Replies.{question_text}
@@ -11,7 +11,11 @@ use Rattle.sq_keeper.specs.Pipes.{Asks, Fails, HalfTells, Shuts, Changes, open_o
 use Rattle.sq_machine.specs.declared.acts.Act.{Act}
 use Rattle.sq_machine.specs.declared.acts.Act.TheVariants as act
 use Rattle.sq_calls.specs.Legality.{Beginning}
-use Rattle.sq_calls.specs.Telling.{AddsOne, IsDead, IsFailed, IsStarted, MayAct}
+use Rattle.sq_calls.specs.Telling.{AddsOne, IsDead, IsFailed, IsStarted, MayAct, Refuses, RefusesAt, reports_stop}
+use Rattle.sq_calls.specs.declared.faults.DeskFault.{DeskFault}
+use Rattle.sq_calls.specs.declared.faults.DeskFault.TheVariants as fault
+use Rattle.sq_machine.specs.declared.entries.Event.TheVariants as event
+use Rattle.sq_machine.specs.declared.refusals.Refusal.{Refusal}
 use Rattle.sq_machine.specs.Entries.{History}
 use Rattle.sq_machine.specs.declared.entries.Told.TheVariants as answer
 use Rattle.sq_rules.specs.Configurations.{Configuration}
@@ -44,18 +48,44 @@ AddsEntryOf (left.Asked epoch class from to) first moment old new = (proc : ℕ)
 AddsEntryOf (left.Died proc act) first moment old new =
     AddsOne first moment (IsDead proc) answer.Fine old new
 
--- The entry was noted at this moment, or the desk refused it, and the act counts as done; or the
--- desk has stopped; or there was no memory, nothing was noted, and the entry is left.
-abbrev pub Reports : {P Q R D : Type 0} → Left P Q (AskerOut R) → ℕ → Option History → ℕ → Turn
-    → PumpView P Q R D → Type 0
-Reports rest moment told refused (turn.Acted act) now =
+-- where the journal is told, the machine refuses at this moment the very event whose entry is still
+-- to be noted
+abbrev pub RefusesEntryOf : {P Q A : Type 0} → Left P Q A → Option Beginning → ℕ → Option History
+    → Type 0
+RefusesEntryOf (left.Whole act) first moment told = ⊥
+RefusesEntryOf (left.Failed epoch class) first moment told = (why : Refusal)
+    × RefusesAt {A = Unit {0}} first moment (λ name. event.StartFail epoch name) epoch class told
+    (Err (fault.Engine why))
+RefusesEntryOf (left.Started epoch class from to) first moment told = (why : Refusal)
+    × RefusesAt {A = ℕ} first moment (λ name. event.Started epoch name) epoch class told
+    (Err (fault.Engine why))
+RefusesEntryOf (left.Asked epoch class from to) first moment told = (why : Refusal)
+    × RefusesAt {A = ℕ} first moment (λ name. event.Started epoch name) epoch class told
+    (Err (fault.Engine why))
+RefusesEntryOf (left.Died proc act) first moment told = (why : Refusal)
+    × Refuses {A = Unit {0}} first moment (event.Died proc) told (Err (fault.Engine why))
+
+-- whether the desk has stopped is what the call reported; without memory it has not stopped since
+abbrev pub TellsStop : {A : Type 0} → Bool → Bool → Result A DeskFault → Type 0
+TellsStop before now (Err fault.WantOfMemory) = now ≡ true → before ≡ true
+TellsStop before now r = now ≡ reports_stop r
+
+-- The entry was noted at this moment, or the machine refuses this very event, and the act counts as
+-- done; or the desk reported that it has stopped or that its journal failed; or there was no
+-- memory, nothing was noted or refused, and the entry is left.
+abbrev pub Reports : {P Q R D : Type 0} → Left P Q (AskerOut R) → ℕ → Option History → ℕ → Bool
+    → Turn → PumpView P Q R D → Type 0
+Reports rest moment told refused stopped (turn.Acted act) now =
     (act ≡ act_of rest) × (now.left ≡ None)
     × (AddsEntryOf rest now.first moment told now.told
-    ⊎ ((now.told ≡ told) × Rose refused now.refused))
-Reports rest moment told refused turn.Ended now =
-    (now.told ≡ told) × Rose refused now.refused × (now.left ≡ None)
-Reports rest moment told refused turn.WantOfMemory now = (now.told ≡ told) × (now.left ≡ Some rest)
-Reports rest moment told refused turn.Idle now = ⊥
+    ⊎ ((now.told ≡ told) × Rose refused now.refused × RefusesEntryOf rest now.first moment told))
+    × (now.stopped ≡ false)
+Reports rest moment told refused stopped turn.Ended now =
+    (now.told ≡ told) × Rose refused now.refused × (now.left ≡ None) × (now.stopped ≡ true)
+Reports rest moment told refused stopped turn.WantOfMemory now =
+    (now.told ≡ told) × (now.left ≡ Some rest) × (now.refused ≡ refused)
+    × (now.stopped ≡ true → stopped ≡ true)
+Reports rest moment told refused stopped turn.Idle now = ⊥
 
 -- nothing of the spawner, and nothing of the halves, changed
 pub record SameSpawner {P Q R D : Type 0} (before now : PumpView P Q R D) : Type 0 where
@@ -85,22 +115,24 @@ NotesStart epoch class proc step = AddsOne step.before.first step.moment
     (IsStarted step.before.first step.before.told epoch class) (answer.Proc proc)
     step.before.told step.now.told
 
--- The process was noted as started, and both its halves were taken up with its number; or neither
--- half was.
+-- The process was noted as started, and both its halves were taken up with its number, the one that
+-- is read with the step's moment, too; or neither half was.
 abbrev pub IsAdmitted : {P Q R D : Type 0} → ℕ → ℕ → P → Q → PumpStep P Q R D → Type 0
 IsAdmitted epoch class from to step =
     ((proc : ℕ) × NotesStart epoch class proc step × AddsPipe proc to step.before step.now
-    × (step.now.readers ≡ step.before.readers ++ record { proc = proc; from = from } ∷ [])
+    × (step.now.readers ≡ step.before.readers
+    ++ record { proc = proc; since = step.moment; from = from } ∷ [])
     × (step.now.asking ≡ step.before.asking))
     ⊎ SameHalves step.before step.now
 
 -- The process of a thread that answers look-ups was noted as started, and both its halves were
--- taken up with its number; or neither half was.
+-- taken up with its number, the one that is read with the step's moment, too; or neither half was.
 abbrev pub IsTakenUp : {P Q R D : Type 0} → ℕ → ℕ → AskerOut R → Q → PumpStep P Q R D → Type 0
 IsTakenUp epoch class from to step =
     ((proc : ℕ) × NotesStart epoch class proc step × AddsPipe proc to step.before step.now
     × (step.now.readers ≡ step.before.readers)
-    × (step.now.asking ≡ step.before.asking ++ record { proc = proc; from = from } ∷ []))
+    × (step.now.asking ≡ step.before.asking
+    ++ record { proc = proc; since = step.moment; from = from } ∷ []))
     ⊎ SameHalves step.before step.now
 
 -- nothing but the halves that are written to changed
@@ -111,13 +143,15 @@ pub record SameButPipes {P Q R D : Type 0} (before now : PumpView P Q R D) : Typ
   pub first : now.first ≡ before.first
   pub told : now.told ≡ before.told
   pub refused : now.refused ≡ before.refused
+  pub stopped : now.stopped ≡ before.stopped
   pub made : now.made ≡ before.made
   pub left : now.left ≡ None
 
 -- the entry that is still to be noted is reported in this turn
 abbrev pub ReportsRest : {P Q R D : Type 0} → Left P Q (AskerOut R) → PumpStep P Q R D → Type 0
 ReportsRest rest step =
-    Reports rest step.moment step.before.told step.before.refused step.result step.now
+    Reports rest step.moment step.before.told step.before.refused step.before.stopped step.result
+    step.now
 
 -- a half was closed; the line was written to one; or a write of it failed
 abbrev pub IsShut : {Q : Type 0} → HalfTells Q → Pipe Q → Pipe Q → Type 0
@@ -249,9 +283,13 @@ Resumes tells (left.Died proc act) step =
     ReportsRest (left.Died proc act) step × SameSpawner step.before step.now
     × SameHalves step.before step.now
 
--- nothing but the desk changed, and of what it counts its refusals
+-- nothing but the desk changed, and of what it tells its refusals, and whether it has stopped
 abbrev pub SameButRefused : {P Q R D : Type 0} → PumpView P Q R D → PumpView P Q R D → Type 0
-SameButRefused before now = (now ≡ record before { desk = now.desk; refused = now.refused })
+SameButRefused before now = (now ≡ record before {
+  desk = now.desk;
+  refused = now.refused;
+  stopped = now.stopped;
+})
     × (before.refused ≤ now.refused)
 
 -- the act was noted at the step's moment, which is the machine's next where the journal is told,
@@ -262,21 +300,25 @@ pub record IsActing {P Q R D : Type 0} (tells : PumpTells P Q D) (step : PumpSte
   pub mid : PumpView P Q R D
   pub noted : MayAct step.before.first step.moment step.before.told mid.told (Ok (Some act))
   pub same : mid ≡ record step.before
-      { desk = mid.desk; told = mid.told; refused = mid.refused }
+      { desk = mid.desk; told = mid.told; refused = mid.refused; stopped = mid.stopped }
   pub programs_stay : tells.programs mid.desk ≡ tells.programs step.before.desk
   pub later : step.before.refused ≤ mid.refused
+  pub going : mid.stopped ≡ false
   pub performs : Performs tells act (record step { before = mid })
 
 -- Nothing is due, as the machine has it where the journal is told, and the desk refused nothing; or
--- there was no memory, or the desk has stopped, and nothing was noted; or an act was noted, and is
--- performed.
+-- there was no memory, and nothing was noted or refused; or the desk reported that it has stopped
+-- or that its journal failed, and nothing was noted; or an act was noted, and is performed.
 abbrev pub BeginsTurn : {P Q R D : Type 0} → PumpTells P Q D → PumpStep P Q R D → Type 0
 BeginsTurn tells step =
-    ((step.result ≡ turn.Idle) × (step.now ≡ record step.before { desk = step.now.desk })
-    × MayAct step.before.first step.moment step.before.told step.now.told (Ok None))
-    ⊎ ((step.result ≡ turn.WantOfMemory) × SameButRefused step.before step.now)
+    ((step.result ≡ turn.Idle)
+    × (step.now ≡ record step.before { desk = step.now.desk; stopped = step.now.stopped })
+    × MayAct step.before.first step.moment step.before.told step.now.told (Ok None)
+    × (step.now.stopped ≡ false))
+    ⊎ ((step.result ≡ turn.WantOfMemory) × SameButRefused step.before step.now
+    × (step.now.refused ≡ step.before.refused) × (step.now.stopped ≡ false))
     ⊎ ((step.result ≡ turn.Ended) × SameButRefused step.before step.now
-    × Rose step.before.refused step.now.refused)
+    × Rose step.before.refused step.now.refused × (step.now.stopped ≡ true))
     ⊎ IsActing tells step
 
 -- what was left is taken up; where nothing was, the next act is

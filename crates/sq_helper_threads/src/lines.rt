@@ -51,7 +51,8 @@ impl<K: HelperCalls, C: Clock> ServeLines<K, C> {
             (C.moments (lines_clock self.new))
             (HandsLine (desk_step K.first (K.told (lines_desk self.old))
             (K.told (lines_desk self.new)) (K.refused (lines_desk self.old))
-            (K.refused (lines_desk self.new))) proc bytes.now result) }
+            (K.refused (lines_desk self.new)) (K.is_stopped (lines_desk self.new))) proc
+            bytes.now result) }
         ensures made { K.made (lines_desk self.new) ≡ K.made (lines_desk self.old) }
         ensures later { K.refused (lines_desk self.old) ≤ K.refused (lines_desk self.new) }
         ensures refused { result ≡ LineEnd.End
@@ -72,7 +73,7 @@ impl<K: HelperCalls, C: Clock> ServeLines<K, C> {
             (C.moments (lines_clock self.new))
             (HandsDeath (desk_step K.first (K.told (lines_desk self.old))
             (K.told (lines_desk self.new)) (K.refused (lines_desk self.old))
-            (K.refused (lines_desk self.new))) proc) }
+            (K.refused (lines_desk self.new)) (K.is_stopped (lines_desk self.new))) proc) }
         ensures made { K.made (lines_desk self.new) ≡ K.made (lines_desk self.old) }
         ensures later { K.refused (lines_desk self.old) ≤ K.refused (lines_desk self.new) }
     {
@@ -115,7 +116,8 @@ impl<K: HelperCalls, C: Clock> LineDesk for ServeLines<K, C> {
             (C.moments (lines_clock self.new))
             (HandsLine (desk_step K.first (K.told (lines_desk self.old))
             (K.told (lines_desk self.new)) (K.refused (lines_desk self.old))
-            (K.refused (lines_desk self.new))) proc bytes.now result) }
+            (K.refused (lines_desk self.new)) (K.is_stopped (lines_desk self.new))) proc
+            bytes.now result) }
         ensures made { K.made (lines_desk self.new) ≡ K.made (lines_desk self.old) }
     {
         self.hand_line(proc, bytes)
@@ -132,7 +134,7 @@ impl<K: HelperCalls, C: Clock> LineDesk for ServeLines<K, C> {
             (C.moments (lines_clock self.new))
             (HandsDeath (desk_step K.first (K.told (lines_desk self.old))
             (K.told (lines_desk self.new)) (K.refused (lines_desk self.old))
-            (K.refused (lines_desk self.new))) proc) }
+            (K.refused (lines_desk self.new)) (K.is_stopped (lines_desk self.new))) proc) }
         ensures made { K.made (lines_desk self.new) ≡ K.made (lines_desk self.old) }
     {
         self.hand_death(proc);

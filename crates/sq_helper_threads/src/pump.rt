@@ -1,9 +1,6 @@
 //! `ServePump`: what performs the acts of a desk.
-ghost use Rattle.std.specs.Prelude.{◌≡◌, ◌++◌, ◌∷◌, ◌<◌, ◌≤◌, [], None, Some, IfNone, IfSome, OnOk};
+ghost use Rattle.std.specs.Prelude.{◌≡◌, ◌++◌, ◌∷◌, ◌<◌, [], None, Some, IfNone, IfSome, OnOk};
 ghost use Rattle.sq_helper_threads.specs.Halves.{in_tells};
-ghost use Rattle.sq_calls.specs.Moments.{AtMoment};
-ghost use Rattle.sq_helper_threads.specs.Handing.{HandsDeath, desk_step};
-ghost use Rattle.sq_helper_threads.specs.ReaderViews.{reader_proc};
 ghost use Rattle.sq_helper_threads.specs.Turning.{LetsGo};
 
 use crate::halves::{AskerOut, ProcIn};
@@ -12,7 +9,7 @@ use crate::turns::{Left, Turn};
 use sq_base::{ProcNo, WantOfMemory};
 use sq_calls::HelperCalls;
 use sq_keeper::Pipes;
-use sq_outside::{Clock, Spawner};
+use sq_outside::Spawner;
 use std::alloc::Global;
 use std::marker::Model;
 use std::sync::Wait;
@@ -60,6 +57,7 @@ impl<'a, S: Spawner, K: HelperCalls, R: Wait> Model for ServePump<'a, S, K, R> {
       first = K.first;
       told = K.told p.desk;
       refused = K.refused p.desk;
+      stopped = K.is_stopped p.desk;
       made = K.made p.desk;
       starts = S.starts p.spawner;
       faults = S.faults p.spawner;
@@ -79,6 +77,7 @@ impl<'a, S: Spawner, K: HelperCalls, R: Wait> ServePump<'a, S, K, R> {
         ensures first { result.first ≡ K.first }
         ensures told { result.told ≡ K.told desk }
         ensures refused { result.refused ≡ K.refused desk }
+        ensures stopped { result.stopped ≡ K.is_stopped desk }
         ensures made { result.made ≡ K.made desk }
         ensures starts { result.starts ≡ S.starts spawner }
         ensures faults { result.faults ≡ S.faults spawner }
@@ -181,29 +180,5 @@ where
     {
         self.pipes.stop(proc);
         self.pipes.sweep();
-    }
-
-    /// No keeper is to be had for this half: that of its process that is written to is closed and let go of, with those that
-    /// were closed before, and the desk is told that the process died, at the moment that the clock gives. It takes no memory.
-    pub fn unkept<P, C: Clock>(&mut self, half: &Reader<P>, clock: &mut C)
-        ensures pipes { LetsGo (in_tells S.ChildIn.contents S.ChildIn.faults S.ChildIn.closed)
-            (reader_proc half.now) self.old.pipes self.new.pipes }
-        // The desk noted this death, or refused it.
-        ensures hands { AtMoment (C.moments clock.old) (C.moments clock.new)
-            (HandsDeath (desk_step self.old.first self.old.told self.new.told self.old.refused
-            self.new.refused) (reader_proc half.now)) }
-        ensures same { self.new
-            ≡ record self.old {
-              pipes = self.new.pipes;
-              desk = self.new.desk;
-              told = self.new.told;
-              refused = self.new.refused;
-            } }
-        ensures later { C.faults clock.old ≤ C.faults clock.new }
-    {
-        let proc = half.proc();
-        self.ended(proc);
-        let now = clock.now();
-        let _gave = self.desk.died(proc, now);
     }
 }

@@ -1,15 +1,19 @@
 //! The pump's thread.
-ghost use Rattle.std.specs.Prelude.{◌≡◌, ◌<◌};
+ghost use Rattle.std.specs.Prelude.{◌≡◌, ◌<◌, ◌≤◌, true};
 ghost use Rattle.std.specs.Thread.{IsSend};
+ghost use Rattle.sq_outside.specs.Causes.{HasCause, Rose, count_limit};
+ghost use Rattle.sq_helper_threads.specs.Halves.{in_tells};
+ghost use Rattle.sq_helper_threads.specs.PumpRounds.{HandsOut, IsRound};
+ghost use Rattle.sq_helper_threads.specs.Pumps.{pump_tells};
 
 use crate::board::Task;
 use crate::keeper_halves::ProcOut;
 use crate::pump::ServePump;
+use crate::rounds::PumpRound;
 use crate::shelf::Shelf;
 use crate::site::Site;
-use crate::turns::Turn;
 use sq_calls::{DeskCalls, HelperCalls};
-use sq_outside::{Another, Clock, Resolver, Source, Spawner};
+use sq_outside::{Another, Clock, Resolver, Source, Spawner, raised};
 use sq_shared::{HelperTypes, Ledgers, LockDesk, Refusals, Room, changes, wait_due};
 use std::alloc::Global;
 use std::sync::Wait;
@@ -77,38 +81,20 @@ impl<
     }
 }
 
-// A half that the pump holds, for a keeper.
-fn next_half<'r, S: Spawner, K: HelperCalls, R: Wait>(
-    pump: &mut ServePump<'r, S, K, R>,
-) -> Option<ProcOut<'r, S::ChildOut, R>>
-    ensures room { 0 < pump.old.room → 0 < pump.new.room }
-    ensures asking_room { 0 < pump.old.asking_room → 0 < pump.new.asking_room }
-{
-    match pump.reader() {
-        Some(half) => Some(ProcOut::Child(half)),
-        None => {
-            let half = pump.asker()?;
-            Some(ProcOut::Asker(half))
-        }
-    }
+// The keepers of a scope: with what each is started, the parts of the book that are left for them, and how often one could not be
+// had.
+#[derive(Drop)]
+struct HelperKeepers<'s, 'e, 'r, R: Wait, H: HelperTypes, D: DeskCalls, B: Ledgers> {
+    scope: &'s Scope<'s, &'e ()>,
+    site: Site<'s, 'r, R, <H::S as Spawner>::ChildOut, D, B>,
+    resolver: H::Q,
+    clock: H::C,
+    parts: KeeperParts<B>,
+    unhad: u64,
+    ghost capped: { unhad ≤ count_limit },
 }
 
-// Hands a half back to the pump, whose keeper could not be started.
-fn put_back<'r, S: Spawner, K: HelperCalls, R: Wait>(
-    pump: &mut ServePump<'r, S, K, R>,
-    half: ProcOut<'r, S::ChildOut, R>,
-)
-    requires { (0 < pump.old.room) × (0 < pump.old.asking_room) }
-{
-    match half {
-        ProcOut::Child(half) => pump.unread(half),
-        ProcOut::Asker(half) => pump.unasked(half),
-    }
-}
-
-// Starts a keeper for each half that the pump holds, as long as there are parts of the book for them, up to one whose keeper
-// could not be started: that is held on.
-fn hand_out<
+impl<
     's,
     'e,
     'r: 's,
@@ -116,62 +102,95 @@ fn hand_out<
     H: HelperTypes + Send + 's,
     D: DeskCalls + Send + 's,
     B: Ledgers + Send + Sync + 's,
->(
-    scope: &'s Scope<'s, &'e ()>,
-    site: &Site<'s, 'r, R, <H::S as Spawner>::ChildOut, D, B>,
-    resolver: &H::Q,
-    clock: &H::C,
-    pump: &mut ServePump<'r, H::S, LockDesk<'s, R, D, B>, R>,
-    parts: &mut KeeperParts<B>,
-) {
-    // A keeper that began before may have taken up this half, and then another one comes back.
-    if pump.reserve().is_err() {
-        return;
-    }
-    let KeeperParts { refused, spare } = parts;
-    for _ in site.rt.forever() {
+> HelperKeepers<'s, 'e, 'r, R, H, D, B> {
+    // Starts a keeper for a half, which has its part of the book for good. Where none can be had, a half is handed back, this one or
+    // another one, unless a keeper that began before took it up.
+    fn start(
+        &mut self,
+        half: ProcOut<'r, <H::S as Spawner>::ChildOut, R>,
+    ) -> Result<(), ProcOut<'r, <H::S as Spawner>::ChildOut, R>>
+        ensures { HasCause self.old.unhad self.new.unhad result }
+    {
+        let HelperKeepers {
+            scope,
+            site,
+            resolver,
+            clock,
+            parts,
+            unhad,
+        } = self;
+        let KeeperParts { refused, spare } = parts;
         if *spare <= 1 {
-            return;
+            *unhad = raised(*unhad);
+            return Err(half);
         }
-        let Some(half) = next_half(pump) else {
-            return;
-        };
         let part = refused.split_off(1, 0);
-        let task = Task::new(half, part);
-        match site.begin(scope, resolver, clock, task) {
-            Ok(()) | Err(None) => *spare -= 1,
+        match site.begin(*scope, &*resolver, &*clock, Task::new(half, part)) {
+            Ok(()) | Err(None) => {
+                *spare -= 1;
+                Ok(())
+            }
             Err(Some(back)) => {
                 let Task {
                     half,
                     refused: part,
                 } = back;
                 refused.merge(part);
-                put_back(pump, half);
-                return;
+                *unhad = raised(*unhad);
+                Err(half)
             }
         }
     }
-    unreachable!()
-}
 
-// Ends a process whose half the pump holds still, since no keeper is to be had: nobody would hear it, nor see that it owes an
-// answer. Answers whether there was one.
-fn end_unread<S: Spawner + Drop, K: HelperCalls, R: Wait, C: Clock>(
-    pump: &mut ServePump<'_, S, K, R>,
-    clock: &mut C,
-) -> bool {
-    let Some(half) = next_half(pump) else {
-        return false;
-    };
-    match &half {
-        ProcOut::Child(half) => pump.unkept(half, clock),
-        ProcOut::Asker(half) => pump.unkept(half, clock),
+    // Starts a keeper for each half that the pump holds, up to one for which none can be had: the pump holds on to that. Returns
+    // whether there is one. Another half may come back than the one that was handed out; where there is no memory to hold on to either
+    // kind, none is handed out.
+    fn hand_out<K: HelperCalls>(&mut self, pump: &mut ServePump<'r, H::S, K, R>) -> bool
+        ensures hands { HandsOut pump.old pump.new }
+        ensures refused { result ≡ true → Rose self.old.unhad self.new.unhad }
+    {
+        if pump.reserve().is_err() {
+            return false;
+        }
+        let rt = self.site.rt;
+        for _ in rt.forever() {
+            let Some(half) = pump.next_half() else {
+                return false;
+            };
+            if let Err(back) = self.start(half) {
+                pump.put_back(back);
+                return true;
+            }
+        }
+        unreachable!()
     }
-    true
+
+    // Hands out the halves that the pump holds, and then has it make a turn, which may end a process that has waited.
+    fn round<K: HelperCalls, T: Clock>(
+        &mut self,
+        pump: &mut ServePump<'r, H::S, K, R>,
+        clock: &mut T,
+    ) -> PumpRound
+        ensures round { IsRound (pump_tells K.programs K.configs H.S.ChildOut.faults
+            (in_tells H.S.ChildIn.contents H.S.ChildIn.faults H.S.ChildIn.closed))
+            (record {
+              before = pump.old;
+              now = pump.new;
+              unhad_before = self.old.unhad;
+              unhad_now = self.new.unhad;
+              moments_before = T.moments clock.old;
+              moments_now = T.moments clock.new;
+            }) result }
+        ensures later { T.faults clock.old ≤ T.faults clock.new }
+    {
+        let is_refused = self.hand_out(pump);
+        let now = clock.now();
+        pump.turn_and_end(is_refused, now)
+    }
 }
 
-// Performs turns until no more is to be done, and starts a keeper for each process that was started. A process without one is
-// ended where nothing else is due: by then it was asked what it can be asked, so each of these questions is answered by its end.
+// Makes rounds until no more is to be done. How often an act may have become due is read before each: what changes later wakes the
+// pump. While a process waits for its keeper's thread it is tried again after each pause.
 fn turns<
     's,
     'e,
@@ -181,37 +200,38 @@ fn turns<
     D: DeskCalls + Send + 's,
     B: Ledgers + Send + Sync + 's,
 >(
-    scope: &'s Scope<'s, &'e ()>,
-    site: &Site<'s, 'r, R, <H::S as Spawner>::ChildOut, D, B>,
-    resolver: &H::Q,
-    clock: &mut H::C,
     pump: &mut ServePump<'r, H::S, LockDesk<'s, R, D, B>, R>,
-    keepers: &mut KeeperParts<B>,
+    keepers: &mut HelperKeepers<'s, 'e, 'r, R, H, D, B>,
+    clock: &mut H::C,
 ) {
-    for _ in site.rt.forever() {
-        let seen = changes(site.rt, site.room);
-        if let Some(proc) = site.shelf.board.ended(site.rt) {
+    let rt = keepers.site.rt;
+    let room = keepers.site.room;
+    for _ in rt.forever() {
+        let seen = changes(rt, room);
+        if let Some(proc) = keepers.site.shelf.board.ended(rt) {
             pump.ended(proc);
             continue;
         }
-        hand_out::<R, H, D, B>(scope, site, resolver, clock, pump, keepers);
-        match pump.turn(clock) {
-            Turn::Acted(_) => {}
-            Turn::Idle => {
-                if end_unread(pump, clock) {
-                    continue;
+        match keepers.round(pump, clock) {
+            PumpRound::Worked => {}
+            PumpRound::Held => {
+                if pump.desk.is_done() {
+                    return;
                 }
-                if wait_due(site.rt, site.room, seen) {
+                clock.pause();
+            }
+            PumpRound::Idle => {
+                if wait_due(rt, room, seen) {
                     return;
                 }
             }
-            Turn::WantOfMemory => clock.pause(),
-            Turn::Ended => return,
+            PumpRound::WantOfMemory => clock.pause(),
+            PumpRound::Ended => return,
         }
     }
 }
 
-// Performs turns with a pump over these tools and parts, and lets go of all of them.
+// Makes rounds with a pump over these tools and parts, and lets go of all of them.
 fn run<
     's,
     'e,
@@ -231,17 +251,25 @@ fn run<
         resolver,
         mut clock,
     } = tools;
-    let PumpParts { own, mut keepers } = parts;
+    let PumpParts { own, keepers } = parts;
     let desk = LockDesk::new(site.rt, site.room, own);
     let mut pump = ServePump::new(site.shelf.rt, site.alloc, spawner, desk);
-    turns::<R, H, D, B>(scope, &site, &resolver, &mut clock, &mut pump, &mut keepers);
+    let mut keepers: HelperKeepers<R, H, D, B> = HelperKeepers {
+        scope,
+        site,
+        resolver,
+        clock: clock.another(),
+        parts: keepers,
+        unhad: 0,
+    };
+    turns::<R, H, D, B>(&mut pump, &mut keepers, &mut clock);
 }
 
 /// Performs the acts of the desk behind its lock until no more is to be done or the desk has stopped, and returns once
 /// every keeper has. Each keeper has a resolver of its own for look-ups of names. Of the parts of the book of refusals all of
 /// the keepers' but one are handed out: a keeper that was started has its part for good, so with `spare` parts at most
-/// `spare - 1` keepers are ever started; after that no keeper is to be had. A process whose keeper is not to be had is ended
-/// as if it had died.
+/// `spare - 1` keepers are ever started; after that no keeper is to be had. A keeper that cannot be had is tried again for as
+/// long as a process may owe an answer; then its process is ended as if it had died.
 pub fn pump_all<
     'x,
     'r: 'x,

@@ -1,33 +1,42 @@
-//! `Reader`: the half of a process that is read, with the number of its process.
+//! `Reader`: the half of a process that is read, with the number of its process and the moment of its start.
 ghost use Rattle.std.specs.Prelude.{◌≡◌, ◌≤◌, ◌<◌, None, IfSome};
 ghost use Rattle.std.specs.Io.KnownBytes.{IsAtEnd};
 ghost use Rattle.sq_dst.specs.AnsweredLines.{AnswersLines, AnswersTold, answer_step};
 ghost use Rattle.sq_keeper.specs.Lines.{ReadsLines};
+ghost use Rattle.sq_keeper.specs.Waiting.{has_waited};
 ghost use Rattle.sq_outside.specs.Causes.{Rose, raised};
-ghost use Rattle.sq_helper_threads.specs.ReaderViews.{asker_config, reader_from, reader_proc};
+ghost use Rattle.sq_helper_threads.specs.ReaderViews.{asker_config, reader_from, reader_proc, reader_since};
 
 use crate::halves::AskerOut;
-use sq_base::ProcNo;
+use sq_base::{Moment, ProcNo};
 use sq_dst::answer_lines;
-use sq_keeper::{KeeperEnd, LineDesk, read_lines};
+use sq_keeper::{KeeperEnd, LineDesk, has_waited, read_lines};
 use sq_outside::{Resolver, Source};
 use std::alloc::Global;
 use std::sync::Wait;
 
-/// The half of a process that is read, with the number that the desk gave for it. A pump makes it as it notes the start, and
-/// the two are never parted: what is read of the half is handed on as of this process.
+/// The half of a process that is read, with the number that the desk gave for it, and the moment at which its start was noted. A
+/// pump makes it then, and the parts stay together: what is read of the half is handed on as of this process.
 #[derive(Drop)]
 pub struct Reader<P> {
     proc: ProcNo,
+    since: Moment,
     from: P,
 }
 
 impl<P> Reader<P> {
-    // The half of the process of this number.
-    pub(crate) fn new(proc: ProcNo, from: P) -> Reader<P>
-        ensures { result ≡ record { proc = proc; from = from } }
+    // The half of the process of this number, whose start was noted at this moment.
+    pub(crate) fn new(proc: ProcNo, since: Moment, from: P) -> Reader<P>
+        ensures { result ≡ record { proc = proc; since = since; from = from } }
     {
-        Reader { proc, from }
+        Reader { proc, since, from }
+    }
+
+    // Whether its process has run for as long as it may owe an answer.
+    pub(crate) fn has_waited(&self, now: Moment) -> bool
+        ensures { result ≡ has_waited (reader_since self.now) now }
+    {
+        has_waited(self.since, now)
     }
 
     /// The number of its process.

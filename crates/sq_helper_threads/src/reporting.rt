@@ -17,8 +17,8 @@ impl<'a, S: Spawner, K: HelperCalls, R: Wait> ServePump<'a, S, K, R> {
     // The half of this process failed in this act.
     pub(crate) fn report_died(&mut self, proc: ProcNo, act: Act, now: Moment) -> Turn
         requires { self.old.left ≡ None }
-        ensures reports { Reports (Left.Died proc act) now self.old.told self.old.refused result
-            self.new }
+        ensures reports { Reports (Left.Died proc act) now self.old.told self.old.refused
+            self.old.stopped result self.new }
         ensures spawner { SameSpawner self.old self.new }
         ensures halves { SameHalves self.old self.new }
         ensures counts { PumpCounts self.old self.new }
@@ -26,7 +26,7 @@ impl<'a, S: Spawner, K: HelperCalls, R: Wait> ServePump<'a, S, K, R> {
         match self.desk.died(proc, now) {
             Ok(()) | Err(DeskFault::Engine(_)) => Turn::Acted(act),
             Err(DeskFault::WantOfMemory) => self.leave(Left::Died { proc, act }),
-            Err(_) => Turn::Ended,
+            Err(DeskFault::Stopped | DeskFault::JournalFault) => Turn::Ended,
         }
     }
 
@@ -34,15 +34,16 @@ impl<'a, S: Spawner, K: HelperCalls, R: Wait> ServePump<'a, S, K, R> {
     pub(crate) fn report_failed(&mut self, epoch: EpochNo, class: u32, now: Moment) -> Turn
         requires { self.old.left ≡ None }
         ensures reports { Reports (Left.Failed epoch class) now self.old.told self.old.refused
-            result self.new }
+            self.old.stopped result self.new }
         ensures spawner { SameSpawner self.old self.new }
         ensures halves { SameHalves self.old self.new }
         ensures counts { PumpCounts self.old self.new }
     {
         match self.desk.start_failed(self.alloc, epoch, class, now) {
-            Ok(()) | Err(DeskFault::Engine(_)) => Turn::Acted(Act::Start { epoch, class }),
+            Ok(()) => Turn::Acted(Act::Start { epoch, class }),
+            Err(DeskFault::Engine(_)) => Turn::Acted(Act::Start { epoch, class }),
             Err(DeskFault::WantOfMemory) => self.leave(Left::Failed { epoch, class }),
-            Err(_) => Turn::Ended,
+            Err(DeskFault::Stopped | DeskFault::JournalFault) => Turn::Ended,
         }
     }
 
@@ -57,7 +58,7 @@ impl<'a, S: Spawner, K: HelperCalls, R: Wait> ServePump<'a, S, K, R> {
     ) -> Turn
         requires { self.old.left ≡ None }
         ensures reports { Reports (Left.Started epoch class from to.entry) now self.old.told
-            self.old.refused result self.new }
+            self.old.refused self.old.stopped result self.new }
         ensures admitted { IsAdmitted epoch class from to.entry
             (step now self.old result self.new) }
         ensures spawner { SameSpawner self.old self.new }
@@ -73,7 +74,7 @@ impl<'a, S: Spawner, K: HelperCalls, R: Wait> ServePump<'a, S, K, R> {
             now,
         ) {
             Ok(proc) => {
-                put_both(&mut self.pipes, &mut self.readers, proc, from, to);
+                put_both(&mut self.pipes, &mut self.readers, proc, now, from, to);
                 Turn::Acted(Act::Start { epoch, class })
             }
             Err(DeskFault::Engine(_)) => {
@@ -86,7 +87,7 @@ impl<'a, S: Spawner, K: HelperCalls, R: Wait> ServePump<'a, S, K, R> {
                 from,
                 to,
             }),
-            Err(_) => {
+            Err(DeskFault::Stopped | DeskFault::JournalFault) => {
                 let_go(from, to);
                 Turn::Ended
             }
@@ -104,7 +105,7 @@ impl<'a, S: Spawner, K: HelperCalls, R: Wait> ServePump<'a, S, K, R> {
     ) -> Turn
         requires { self.old.left ≡ None }
         ensures reports { Reports (Left.Asked epoch class from.entry to.entry) now self.old.told
-            self.old.refused result self.new }
+            self.old.refused self.old.stopped result self.new }
         ensures taken { IsTakenUp epoch class from.entry to.entry
             (step now self.old result self.new) }
         ensures spawner { SameSpawner self.old self.new }
@@ -120,7 +121,7 @@ impl<'a, S: Spawner, K: HelperCalls, R: Wait> ServePump<'a, S, K, R> {
             now,
         ) {
             Ok(proc) => {
-                put_both(&mut self.pipes, &mut self.asking, proc, from, to);
+                put_both(&mut self.pipes, &mut self.asking, proc, now, from, to);
                 Turn::Acted(Act::Start { epoch, class })
             }
             Err(DeskFault::Engine(_)) => {
@@ -133,7 +134,7 @@ impl<'a, S: Spawner, K: HelperCalls, R: Wait> ServePump<'a, S, K, R> {
                 from,
                 to,
             }),
-            Err(_) => {
+            Err(DeskFault::Stopped | DeskFault::JournalFault) => {
                 let_go(from, to);
                 Turn::Ended
             }

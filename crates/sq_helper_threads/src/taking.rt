@@ -1,9 +1,11 @@
 //! What becomes of the two halves of a process that was started. What is proved of a function grows with the types that it may
 //! name, so these are over the halves and the desk alone.
 ghost use Rattle.std.specs.Prelude.{◌≡◌, ◌-◌, ◌<◌, ◌++◌, ◌∷◌, [], false, OnOk, vec_capacity, vec_len};
-ghost use Rattle.sq_calls.specs.Telling.{CountsRefusal, IsStarted, Notes};
+ghost use Rattle.sq_calls.specs.Telling.{CountsRefusal, IsStarted, Notes, RefusesAt};
 ghost use Rattle.sq_keeper.specs.PipeViews.{pipes_of, room_of};
+ghost use Rattle.sq_machine.specs.declared.entries.Event.TheVariants as event;
 ghost use Rattle.sq_machine.specs.declared.entries.Told.TheVariants as answer;
+ghost use Rattle.sq_helper_threads.specs.Turning.{TellsStop};
 
 use crate::reader::Reader;
 use sq_base::{EpochNo, Moment, ProcNo, WantOfMemory};
@@ -28,6 +30,7 @@ fn make_room<P: Drop, Q: Out + Drop>(
 }
 
 // Tells the desk that a process was started, and gives its number, where there is room for both halves.
+#[tactic(auto, using(crate::proofs::TakingLaws::tells_stop))]
 pub(crate) fn note_start<K: HelperCalls, P: Drop, Q: Out + Drop>(
     desk: &mut K,
     pipes: &mut Pipes<Q>,
@@ -40,7 +43,10 @@ pub(crate) fn note_start<K: HelperCalls, P: Drop, Q: Out + Drop>(
     ensures told { Notes K.first now answer.Proc
         (IsStarted K.first (K.told desk.old) epoch class) (K.told desk.old) (K.told desk.new)
         result }
+    ensures refuses { RefusesAt K.first now (λ name. event.Started epoch name) epoch class
+        (K.told desk.old) result }
     ensures refused { CountsRefusal (K.refused desk.old) (K.refused desk.new) result }
+    ensures stopped { TellsStop (K.is_stopped desk.old) (K.is_stopped desk.new) result }
     ensures made { K.made desk.new ≡ K.made desk.old }
     ensures pipe_room { OnOk result (0 < room_of pipes.new) }
     ensures room { OnOk result (0 < vec_capacity readers.new - vec_len readers.new) }
@@ -53,11 +59,12 @@ pub(crate) fn note_start<K: HelperCalls, P: Drop, Q: Out + Drop>(
     desk.started(alloc, epoch, class, now)
 }
 
-// Keeps both halves of a process under its number. It takes no memory.
+// Keeps both halves of a process under its number, the one that is read with the moment of its start. It takes no memory.
 pub(crate) fn put_both<P: Drop, Q: Out + Drop>(
     pipes: &mut Pipes<Q>,
     readers: &mut Vec<Reader<P>>,
     proc: ProcNo,
+    since: Moment,
     from: P,
     to: Q,
 )
@@ -66,10 +73,10 @@ pub(crate) fn put_both<P: Drop, Q: Out + Drop>(
     ensures pipes { pipes_of pipes.new ≡ pipes_of pipes.old
         ++ record { proc = proc; to = to; closed = false } ∷ [] }
     ensures readers { readers.new.items ≡ readers.old.items
-        ++ record { proc = proc; from = from } ∷ [] }
+        ++ record { proc = proc; since = since; from = from } ∷ [] }
 {
     pipes.put(proc, to);
-    readers.push_reserved(Reader::new(proc, from));
+    readers.push_reserved(Reader::new(proc, since, from));
 }
 
 // Closes the half of a process that is written to, which stops it, and lets go of both.

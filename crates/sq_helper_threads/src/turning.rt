@@ -1,8 +1,7 @@
 //! A turn of a pump: one act, or what an earlier turn left.
-ghost use Rattle.std.specs.Prelude.{◌≡◌, ◌≤◌, None};
+ghost use Rattle.std.specs.Prelude.{◌≡◌, None};
 ghost use Rattle.sq_helper_threads.specs.Entries.{IsTurn};
 ghost use Rattle.sq_helper_threads.specs.Halves.{in_tells};
-ghost use Rattle.sq_calls.specs.Moments.{AtMoment};
 ghost use Rattle.sq_helper_threads.specs.Pumps.{pump_tells, step};
 ghost use Rattle.sq_helper_threads.specs.Turning.{BeginsTurn, PumpCounts, IsSending, IsStopping, Performs, Resumes, Turns};
 
@@ -13,7 +12,7 @@ use sq_base::{Moment, ProcNo, QuestionNo, Text};
 use sq_calls::{DeskFault, HelperCalls};
 use sq_keeper::SendEnd;
 use sq_machine::Act;
-use sq_outside::{Clock, Spawner};
+use sq_outside::Spawner;
 use std::sync::Wait;
 
 impl<'a, S: Spawner, K: HelperCalls, R: Wait> ServePump<'a, S, K, R>
@@ -121,7 +120,9 @@ where
             Ok(Some(act)) => self.perform(act, now),
             Ok(None) => Turn::Idle,
             Err(DeskFault::WantOfMemory) => Turn::WantOfMemory,
-            Err(_) => Turn::Ended,
+            Err(DeskFault::Stopped | DeskFault::JournalFault) => Turn::Ended,
+            // The machine refuses no act.
+            Err(DeskFault::Engine(_)) => unreachable!(),
         }
     }
 
@@ -138,18 +139,15 @@ where
         }
     }
 
-    /// Performs one act that is due, or goes on with what an earlier turn left, at the moment that the clock gives.
-    pub fn turn<C: Clock>(&mut self, clock: &mut C) -> Turn
+    /// Performs one act that is due, or goes on with what an earlier turn left, at this moment.
+    pub fn turn(&mut self, now: Moment) -> Turn
         // What it did. Each entry that is noted behind an act, and what is left, has its cause in this turn or in an earlier one,
         // and all that is noted is noted at this moment.
-        ensures turn { AtMoment (C.moments clock.old) (C.moments clock.new)
-            (λ moment. IsTurn (pump_tells K.programs K.configs S.ChildOut.faults
+        ensures turn { IsTurn (pump_tells K.programs K.configs S.ChildOut.faults
             (in_tells S.ChildIn.contents S.ChildIn.faults S.ChildIn.closed))
-            (step moment self.old result self.new)) }
+            (step now self.old result self.new) }
         ensures counts { PumpCounts self.old self.new }
-        ensures later { C.faults clock.old ≤ C.faults clock.new }
     {
-        let now = clock.now();
         self.go_on(now)
     }
 }

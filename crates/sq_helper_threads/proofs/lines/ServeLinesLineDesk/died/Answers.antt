@@ -9,5 +9,6 @@ returns-clause-passes g c =
     let new = c.hand_death.new.self in
     death_timely
     (desk_step g.K.TellsJournal.first (g.K.TellsJournal.told (lines_desk old)) (g.K.TellsJournal.told (lines_desk new))
-    (g.K.TellsJournal.refused (lines_desk old)) (g.K.TellsJournal.refused (lines_desk new)))
+    (g.K.TellsJournal.refused (lines_desk old)) (g.K.TellsJournal.refused (lines_desk new))
+    (g.K.HelperCalls.is_stopped (lines_desk new)))
     (g.C.Clock.moments (lines_clock old)) (g.C.Clock.moments (lines_clock new)) c.args.proc c.hand_death.ensures.hands

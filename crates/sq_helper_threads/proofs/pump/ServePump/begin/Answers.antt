@@ -9,11 +9,13 @@ returns-in-Ok-Some-clause-begins g c =
         desk = c.act.new.self;
         told = g.K.TellsJournal.told c.act.new.self;
         refused = g.K.TellsJournal.refused c.act.new.self;
+        stopped = g.K.HelperCalls.is_stopped c.act.new.self;
         made = g.K.TellsJournal.made c.act.new.self;
       };
       noted = search rules;
       same = search rules;
       later = search rules;
+      going = search rules;
       programs_stay = search rules;
       performs = search rules;
     })))

@@ -13,6 +13,7 @@ returns-in-Written g c = record {
       first = search rules;
       told = search rules;
       refused = search rules;
+      stopped = search rules;
       made = search rules;
       left = search rules;
     },

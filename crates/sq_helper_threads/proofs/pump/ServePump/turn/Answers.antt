@@ -3,8 +3,5 @@ use Rattle.sq_helper_threads.proofs.EntryLaws.{turned}
 use Rattle.sq_helper_threads.proofs.pump.ServePump.turn.Goals as goal
 
 pub returns-clause-turn : goal.returns-clause-turn
-returns-clause-turn g c = (
-  c.now-now.result,
-  c.now-now.ensures.moment,
-  turned _ (step c.now-now.result c.args.self.now c.go_on.result c.go_on.new.self) c.go_on.ensures.turns,
-)
+returns-clause-turn g c =
+    turned _ (step c.args.now c.args.self.now c.go_on.result c.go_on.new.self) c.go_on.ensures.turns
