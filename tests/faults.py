@@ -123,18 +123,18 @@ class Bench:
             lines.append(said)
         return " ".join([*lines, f"status {server.ends(0.2 if said != 'its end' else seconds)}"])
 
-    def connect(self) -> socket.socket:
+    def connect(self, seconds: float = PATIENCE) -> socket.socket:
         link = socket.create_connection(("127.0.0.1", self.port), timeout=PATIENCE)
-        link.settimeout(PATIENCE)
+        link.settimeout(seconds)
         return link
 
     def request(self, path: str, *fields: str, method: str = "GET") -> bytes:
         lines = [f"{method} http://127.0.0.1:{self.origin}{path} HTTP/1.1", "Host: a", *fields, "", ""]
         return "\r\n".join(lines).encode("latin-1")
 
-    def get(self, path: str, *fields: str) -> bytes:
+    def get(self, path: str, *fields: str, seconds: float = PATIENCE) -> bytes:
         """A reply over a connection of its own."""
-        with self.connect() as link:
+        with self.connect(seconds) as link:
             link.sendall(self.request(path, "Connection: close", *fields))
             return all_of(link)
 
@@ -398,7 +398,7 @@ def little_memory_and_it_serves(bench: Bench) -> None:
             ("a helper", "/ask", ["Connection: close"], {hello()} | denied),
             ("another answer", "/", ["Connection: close"], {hello()}),
         ):
-            with bench.connect() as link:
+            with bench.connect(90 if what == "a helper" else PATIENCE) as link:
                 link.sendall(bench.request(path, *more))
                 got = all_of(link)
             if got == b"<too slow>":
@@ -444,7 +444,7 @@ def no_memory_while_it_runs(bench: Bench) -> None:
     server.order("reconfigure\n")
     bench.same("a large configuration", server.hear(PATIENCE), {"kept old memory", "reconfigured 2"})
     resource.prlimit(server.pid, resource.RLIMIT_AS, (resource.RLIM_INFINITY, resource.RLIM_INFINITY))
-    # Where the thread that hears a helper is not to be had, the helper is ended.
+    # Where the thread that hears a helper is not to be had it is tried again, for a minute.
     bench.same("a helper", all_of(asking).removesuffix(b"<reset>"), denials | {hello(), NO_MEMORY, b""})
     bench.same("later", bench.get("/"), hello())
     bench.same("a helper, later", bench.get("/ask/later"), hello())
@@ -673,7 +673,7 @@ def helpers_that_cannot_start(bench: Bench) -> None:
 
 def no_processes(bench: Bench) -> None:
     """Where the system gives no further process, helpers are NoHelper, and tunnels, which need one thread more, are 502; where it gives
-    one, and no thread to hear it, Died. Other checks go on."""
+    one, and no thread to hear it within a minute, Died. Other checks go on."""
     if os.getuid() != 0:
         return bench.left("only root can be another user")
     os.chmod(".", 0o777)
@@ -702,7 +702,7 @@ def no_processes(bench: Bench) -> None:
             # It has as many threads as before (the first, the doorkeeper's, four workers', the pump's), and no process more; and then one more.
             until(5, lambda: server.value("Threads") == 7)
             most = 7 + turn
-            bench.same(f"{turn}, a helper", bench.get("/ask/a"), denied if turn else hello())
+            bench.same(f"{turn}, a helper", bench.get("/ask/a", seconds=90), denied if turn else hello())
             bench.same(f"{turn}, another request", bench.get("/"), hello())
             bench.same(f"{turn}, its end", bench.ends(server), "stopped status 0")
             bench.same(f"{turn}, its journal", bench.verify(), "verified")
