@@ -1,2 +1,3 @@
 mod BookLaws
+mod QueueLaws
 mod ShareLaws

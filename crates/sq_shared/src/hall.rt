@@ -1,5 +1,6 @@
 //! The desk, as it lies behind its lock, with its three books.
-ghost use Rattle.std.specs.Prelude.{◌≡◌, ◌+◌, ◌<◌, [], min, nat_lt, true};
+ghost use Rattle.std.specs.Prelude.{◌≡◌, ◌==◌, ◌≢◌, ◌+◌, ◌<◌, ℕ, [], Some, false, min, nat_lt, slice_index_or, true};
+ghost use Rattle.sq_shared.specs.declared.wait_queues.WaitQueue.{WaitQueue};
 ghost use Rattle.std.specs.Option.{ForSome};
 ghost use Rattle.sq_outside.specs.Causes.{count_limit};
 ghost use Rattle.sq_shared.specs.Books.{AreCounted, asks_in};
@@ -69,8 +70,8 @@ impl<D: DeskCalls, B: Ledgers> Hall<D, B> {
 
     // The same with these places to sleep.
     pub(crate) fn with_queues(mut self, queues: WaitQueues) -> Hall<D, B>
-        ensures desk { result.desk ≡ self.entry.desk }
-        ensures awaited { result.awaited ≡ self.entry.awaited }
+        ensures desk { result.desk ≡ self.desk }
+        ensures awaited { result.awaited ≡ self.awaited }
     {
         self.queues = queues;
         self
@@ -79,6 +80,9 @@ impl<D: DeskCalls, B: Ledgers> Hall<D, B> {
     // Gives a place to a session that is about to sleep until the answer to this question comes. It takes no memory.
     pub(crate) fn add_waiter(&mut self, question: QuestionNo) -> Option<usize>
         ensures place { result ≡ place_of question self.new.queues.queues.items }
+        ensures others { (other : ℕ) → (question == other) ≡ false
+            → place_of other self.new.queues.queues.items
+            ≡ place_of other self.old.queues.queues.items }
         ensures desk { self.new.desk ≡ self.old.desk }
         ensures changes { self.new.changes ≡ self.old.changes }
         ensures awaited { self.new.awaited ≡ self.old.awaited }
@@ -88,6 +92,13 @@ impl<D: DeskCalls, B: Ledgers> Hall<D, B> {
 
     // A session that waited at this place goes on. It takes no memory.
     pub(crate) fn remove_waiter(&mut self, place: usize)
+        ensures others { (other : ℕ) → place_of other self.old.queues.queues.items ≢ Some place
+            → place_of other self.new.queues.queues.items
+            ≡ place_of other self.old.queues.queues.items }
+        ensures shared { (other : ℕ) (d : WaitQueue)
+            → 1 < (slice_index_or self.old.queues.queues.items place d).length
+            → place_of other self.new.queues.queues.items
+            ≡ place_of other self.old.queues.queues.items }
         ensures desk { self.new.desk ≡ self.old.desk }
         ensures changes { self.new.changes ≡ self.old.changes }
         ensures awaited { self.new.awaited ≡ self.old.awaited }

@@ -1,5 +1,6 @@
 //! The sessions that sleep until the answer to a question comes, as they stand behind the desk's lock.
-ghost use Rattle.std.specs.Prelude.{◌≡◌, [], IfOk};
+ghost use Rattle.std.specs.Prelude.{◌≡◌, ◌==◌, ◌≢◌, ◌<◌, ℕ, [], Some, false, slice_index_or, IfOk};
+ghost use Rattle.sq_shared.specs.declared.wait_queues.WaitQueue.{WaitQueue};
 ghost use Rattle.sq_shared.specs.Waking.{has_waiters, is_for, place_of};
 
 use sq_base::{QuestionNo, WantOfMemory};
@@ -61,7 +62,10 @@ impl WaitQueues {
     }
 
     // Puts a queue of one session at the first place at which nobody sleeps, if there is one. It takes no memory.
-    fn put(&mut self, queue: WaitQueue) {
+    fn put(&mut self, queue: WaitQueue)
+        ensures others { (other : ℕ) → is_for other queue ≡ false
+            → place_of other self.new.queues.items ≡ place_of other self.old.queues.items }
+    {
         match self.queues.iter().position(|other| !other.has_waiters()) {
             Some(at) => self.queues[at] = queue,
             None => {
@@ -73,13 +77,17 @@ impl WaitQueues {
     }
 
     // One session more waits for this question: its place. None where all are taken. It takes no memory.
+    #[tactic(auto, using(crate::proofs::QueueLaws::longer))]
     pub(crate) fn add(&mut self, question: QuestionNo) -> Option<usize>
-        ensures { result ≡ place_of question self.new.queues.items }
+        ensures place { result ≡ place_of question self.new.queues.items }
+        // No other queue goes to another place.
+        ensures others { (other : ℕ) → (question == other) ≡ false
+            → place_of other self.new.queues.items ≡ place_of other self.old.queues.items }
     {
         match self.place_of(question) {
             Some(at) => {
-                let length = self.queues[at].length;
-                self.queues[at].length = length.saturating_add(1);
+                let length = self.queues[at].length.saturating_add(1);
+                self.queues[at] = WaitQueue { question, length };
             }
             None => self.put(WaitQueue {
                 question,
@@ -89,16 +97,43 @@ impl WaitQueues {
         self.place_of(question)
     }
 
-    // A session that waited at this place goes on. It takes no memory.
-    pub(crate) fn remove(&mut self, place: usize) {
+    // The queue at this place is one session shorter.
+    #[tactic(auto, using(crate::proofs::QueueLaws::shorter))]
+    fn shorten(&mut self, place: usize)
+        ensures others { (other : ℕ) → place_of other self.old.queues.items ≢ Some place
+            → place_of other self.new.queues.items ≡ place_of other self.old.queues.items }
+        ensures shared { (other : ℕ) (d : WaitQueue)
+            → 1 < (slice_index_or self.old.queues.items place d).length
+            → place_of other self.new.queues.items ≡ place_of other self.old.queues.items }
+    {
         if place < self.queues.len() {
             let length = self.queues[place].length;
             self.queues[place].length = length.saturating_sub(1);
         }
+    }
+
+    // Lets the last place go where nobody sleeps there.
+    fn trim(&mut self)
+        ensures { (other : ℕ)
+            → place_of other self.new.queues.items ≡ place_of other self.old.queues.items }
+    {
         if let Some(last) = self.queues.last() {
             if !last.has_waiters() {
                 self.queues.pop();
             }
         }
+    }
+
+    // A session that waited at this place goes on. It takes no memory.
+    pub(crate) fn remove(&mut self, place: usize)
+        // No other queue goes to another place.
+        ensures others { (other : ℕ) → place_of other self.old.queues.items ≢ Some place
+            → place_of other self.new.queues.items ≡ place_of other self.old.queues.items }
+        ensures shared { (other : ℕ) (d : WaitQueue)
+            → 1 < (slice_index_or self.old.queues.items place d).length
+            → place_of other self.new.queues.items ≡ place_of other self.old.queues.items }
+    {
+        self.shorten(place);
+        self.trim();
     }
 }
