@@ -1,5 +1,5 @@
 //! What a desk's calls are to those who make them.
-ghost use Rattle.std.specs.Prelude.{◌≡◌, ◌≤◌, ℕ, ⊤, Bool, List, None, Some, true, IfOk, IfSome, IsErrOf, IsSome, OnOk, Result};
+ghost use Rattle.std.specs.Prelude.{◌≡◌, ◌≤◌, ℕ, ⊤, Bool, List, None, Some, true, IfOk, IfSome, IsErrOf, IsSome, OnOk, Result, is_some};
 ghost use Rattle.std.specs.Arc.{arc_value};
 ghost use Rattle.sq_outside.specs.Causes.{count_limit};
 ghost use Rattle.std.specs.declared.option.Option.{Option};
@@ -44,6 +44,10 @@ pub trait TellsJournal {
     fn config(&self, epoch: EpochNo) -> Option<Arc<Config>>
         ensures { IfSome (configs self.now epoch)
             (λ o. IfSome result (λ c. o ≡ Some (arc_value c))) };
+
+    /// Whether this epoch lives, where it tells that.
+    fn lives(&self, epoch: EpochNo) -> bool
+        ensures { IfSome (configs self.now epoch) (λ o. result ≡ is_some o) };
 
     ghost capped: { (desk : Self) → refused desk ≤ count_limit };
 }

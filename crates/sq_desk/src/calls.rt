@@ -56,6 +56,10 @@ impl<J: Journal, F: DeskStart> TellsJournal for Desk<J, F> {
         }
     }
 
+    fn lives(&self, epoch: EpochNo) -> bool {
+        self.engine.config(epoch).is_some()
+    }
+
     ghost capped = { λ d. Prim.search arith };
 }
 

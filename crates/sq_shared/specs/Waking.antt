@@ -1,5 +1,5 @@
 -- Who is to be woken by a call of a desk behind its lock.
-use Rattle.std.specs.Prelude.{◌+◌, ◌%◌, ◌^◌, ◌==◌, ◌++◌, ◌∷◌, [], ℕ, List, Bool, true, false, not, ◌&&◌, if◌then◌else◌, nat_lt, None, Result, Ok, Err}
+use Rattle.std.specs.Prelude.{◌+◌, ◌%◌, ◌^◌, ◌==◌, ◌++◌, ◌∷◌, [], ℕ, List, Bool, true, false, not, ◌&&◌, if◌then◌else◌, is_none, nat_lt, None, Result, Ok, Err}
 use Rattle.std.specs.List.{filter, list_any, position}
 use Rattle.std.specs.declared.option.Option.{Option}
 use Rattle.sq_calls.specs.declared.faults.DeskFault.{DeskFault}
@@ -48,6 +48,17 @@ after_line (Ok (got.Reply question reply)) questions = without_question question
 after_line (Ok got.Bad) questions = []
 after_line (Ok got.Stray) questions = []
 after_line (Err f) questions = questions
+
+-- the epoch that is current after a reconfiguration: the one that it made, if it made one
+abbrev pub current_after : Result ℕ DeskFault → ℕ → ℕ
+current_after (Ok epoch) current = epoch
+current_after (Err f) current = current
+
+-- the oldest epoch that may live, where this is its configuration as far as it lives: the next one,
+-- where it lives no more and is not current
+abbrev pub oldest_after : {C : Type 0} → Option C → ℕ → ℕ → ℕ
+oldest_after lives oldest current = if nat_lt oldest current && is_none lives then oldest + 1
+    else oldest
 
 -- sessions sleep here
 abbrev pub has_waiters : WaitQueue → Bool

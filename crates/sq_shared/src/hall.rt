@@ -1,5 +1,5 @@
 //! The desk, as it lies behind its lock, with its three books.
-ghost use Rattle.std.specs.Prelude.{◌≡◌, ◌==◌, ◌≢◌, ◌+◌, ◌<◌, ℕ, [], Some, false, min, nat_lt, slice_index_or, true};
+ghost use Rattle.std.specs.Prelude.{◌≡◌, ◌==◌, ◌≢◌, ◌+◌, ◌<◌, ℕ, [], Some, false, min, nat_lt, slice_index_or, true, is_some, IfSome};
 ghost use Rattle.sq_shared.specs.declared.wait_queues.WaitQueue.{WaitQueue};
 ghost use Rattle.std.specs.Option.{ForSome};
 ghost use Rattle.sq_outside.specs.Causes.{count_limit};
@@ -129,6 +129,13 @@ impl<D: DeskCalls, B: Ledgers> Hall<D, B> {
     /// The configuration of a live epoch.
     pub fn config(&self, epoch: EpochNo) -> Option<Arc<Config>> {
         self.desk.config(epoch)
+    }
+
+    /// Whether this epoch lives.
+    pub fn lives(&self, epoch: EpochNo) -> bool
+        ensures { IfSome (D.configs self.now.desk epoch) (λ o. result ≡ is_some o) }
+    {
+        self.desk.lives(epoch)
     }
 
     /// How often an act may have become due, or a keeper have ended.

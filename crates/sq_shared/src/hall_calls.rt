@@ -1,13 +1,13 @@
 //! The calls of the desk under its lock, each counted. Those of a session are made at the moment that its clock gives
 //! there.
-ghost use Rattle.std.specs.Prelude.{◌≡◌, ◌+◌, ◌<◌, [], true, IfOk, IsErrOf, nat_lt};
+ghost use Rattle.std.specs.Prelude.{◌≡◌, ◌+◌, ◌<◌, [], true, IfNone, IfOk, IfSome, IsErrOf, OnErr, OnSome, nat_lt};
 ghost use Rattle.sq_calls.specs.declared.faults.DeskFault.TheVariants as fault;
 ghost use Rattle.sq_calls.specs.Legality.{IsStated};
 ghost use Rattle.sq_calls.specs.Moments.{AtMoment};
 ghost use Rattle.sq_calls.specs.Telling.{IsAsking, IsClosing, IsDead, IsFailed, IsLine, IsOpening, IsReread, IsStarted, IsStep, IsStepTold, IsTakeTold, IsTaking, IsUnrefused, MayAct, Notes, NotesAs, got_told};
 ghost use Rattle.sq_machine.specs.declared.entries.Told.TheVariants as answer;
 ghost use Rattle.sq_shared.specs.Books.{SharesLine, SharesMade, SharesRefusal};
-ghost use Rattle.sq_shared.specs.Waking.{after_line, after_step, may_ask, one_more, raised_if};
+ghost use Rattle.sq_shared.specs.Waking.{after_line, after_step, current_after, may_ask, oldest_after, one_more, raised_if};
 
 use crate::counting::{count, count_line, count_made};
 use crate::hall::Hall;
@@ -340,6 +340,14 @@ impl<D: DeskCalls, B: Ledgers> Hall<D, B> {
         ensures parts { refused.new.parts ≡ refused.old.parts }
         ensures changes { self.new.changes ≡ self.old.changes }
         ensures awaited { self.new.awaited ≡ self.old.awaited }
+        // Where nothing is due, the oldest epoch is let go where it lives no more and is not current.
+        ensures oldest { IfOk result (λ o. IfNone o
+            (IfSome (D.configs self.new.desk self.old.older.oldest)
+            (λ c. self.new.older.oldest
+            ≡ oldest_after c self.old.older.oldest self.old.older.current))) }
+        ensures older { IfOk result (λ o. OnSome o (self.new.older ≡ self.old.older)) }
+        ensures older_err { OnErr result (self.new.older ≡ self.old.older) }
+        ensures current { self.new.older.current ≡ self.old.older.current }
     {
         let Hall {
             desk,
@@ -380,6 +388,8 @@ impl<D: DeskCalls, B: Ledgers> Hall<D, B> {
         ensures parts { refused.new.parts ≡ refused.old.parts }
         ensures changes { self.new.changes ≡ one_more self.old.changes }
         ensures awaited { self.new.awaited ≡ self.old.awaited }
+        ensures current { self.new.older.current ≡ current_after result self.old.older.current }
+        ensures oldest { self.new.older.oldest ≡ self.old.older.oldest }
     {
         let Hall {
             desk,

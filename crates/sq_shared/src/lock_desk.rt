@@ -64,6 +64,10 @@ impl<'a, R: Wait, D: DeskCalls, B: Ledgers> TellsJournal for LockDesk<'a, R, D, 
         self.room.hall.lock(self.rt).config(epoch)
     }
 
+    fn lives(&self, epoch: EpochNo) -> bool {
+        self.room.hall.lock(self.rt).lives(epoch)
+    }
+
     ghost capped = { λ s. Prim.search arith };
 }
 
