@@ -155,11 +155,11 @@ resumed t s (left.Whole a) is h =
 resumed t s (left.Failed epoch class) is h =
     did t.programs t.halves s (left.Failed epoch class) s.before.told s.before.refused s.before.stopped (inl is) h.0
 resumed t s (left.Started epoch class from to) is h =
-    did t.programs t.halves s (left.Started epoch class from to) s.before.told s.before.refused s.before.stopped (inl is)
-    h.0
+    did t.programs t.halves s (left.Started epoch class from to) s.before.told s.before.refused s.before.stopped
+    (inl is) h.0
 resumed t s (left.Asked epoch class from to) is h =
-    did t.programs t.halves s (left.Asked epoch class from to) s.before.told s.before.refused s.before.stopped (inl is)
-    h.0
+    did t.programs t.halves s (left.Asked epoch class from to) s.before.told s.before.refused s.before.stopped
+    (inl is) h.0
 resumed t s (left.Died proc a) is h =
     did t.programs t.halves s (left.Died proc a) s.before.told s.before.refused s.before.stopped (inl is) h.0
 
