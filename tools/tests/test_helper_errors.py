@@ -7,10 +7,12 @@ import socket
 import subprocess
 import time
 from pathlib import Path
+from unittest import mock
 
 from aclproxyctl.appended import LONGEST, MOST_BYTES, MOST_LINES, Appended, Left
 from aclproxyctl.helper_errors import SystemLog
 from aclproxyctl.journal import pieces_of
+from aclproxyctl.listening import Port
 from aclproxyctl.run import Options, Run
 from tests.common import PROGRAM, InFolder, needs_program
 from tests.test_run import TIME, Service, free_port, wait_for
@@ -149,7 +151,11 @@ class Helpers(InFolder):
         conf = self.folder / "conf"
         conf.write_text(f"external_acl_type known %SRC /bin/sh {helper}\nacl known external known\nhttp_access deny known\n")
         options = Options(PROGRAM, str(conf), str(self.folder / "journal"), free_port(), 2, None, False, 5)
-        run = Run(options, conf.read_bytes())
+        # The program opens the port by itself: the process that is named is none of its own.
+        none = open(os.devnull)
+        self.addCleanup(none.close)
+        port = mock.Mock(spec=Port, port=options.port, descriptor=none.fileno(), command=lambda words: words)
+        run = Run(options, conf.read_bytes(), port)
         logged: list[str] = []
         run.errors.log = logged.append
         try:

@@ -178,7 +178,7 @@ fn end_all<R: Wait, D: DeskCalls, B: Ledgers>(
     }
 }
 
-// The workers. Once these have returned, no more is to be done.
+// The workers, who open their connections as the numbers from 1 on, one each. Once these have returned, no more is to be done.
 fn work_to_end<
     R: Threads + Wait + Sync,
     W: WorkerTypes + Send,
@@ -197,6 +197,7 @@ fn work_to_end<
     requires asked { (shares.asked.parts ≡ workers + workers) × (shares.asked.amount ≡ 0) }
     requires refused { shares.refused.parts ≡ workers + workers }
     requires grants { (shares.granted.parts ≡ workers + workers) × (shares.granted.amount ≡ 0) }
+    ensures numbers { (result.first ≡ 1) × (result.count ≡ workers) }
     ensures asked { result.asked.parts ≡ workers + workers }
     ensures grants { result.grants.parts ≡ workers + workers }
 {
@@ -225,6 +226,7 @@ fn pump_beside<
     requires asked { (shares.asked.parts ≡ workers + workers) × (shares.asked.amount ≡ 0) }
     requires refused { shares.refused.parts ≡ workers + workers }
     requires grants { (shares.granted.parts ≡ workers + workers) × (shares.granted.amount ≡ 0) }
+    ensures numbers { (result.first ≡ 1) × (result.count ≡ workers) }
     ensures asked { result.asked.parts ≡ workers + workers }
     ensures grants { result.grants.parts ≡ workers + workers }
 {
@@ -266,7 +268,8 @@ fn pump_beside<
                 × (shares.asked.parts ≡ workers + workers) × (shares.asked.amount ≡ 0)
                 × (shares.refused.parts ≡ workers + workers)
                 × (shares.granted.parts ≡ workers + workers) × (shares.granted.amount ≡ 0) }
-            ensures { (result.asked.parts ≡ workers + workers)
+            ensures { (result.first ≡ 1) × (result.count ≡ workers)
+                × (result.asked.parts ≡ workers + workers)
                 × (result.grants.parts ≡ workers + workers) }
         { work_to_end(rt, alloc, door, rooms, working, workers, shares) },
     );
@@ -327,6 +330,7 @@ impl<
             × (wholes.made.amount ≡ 0) }
         requires refused { wholes.refused.parts ≡ REFUSALS }
         requires grants { (wholes.grants.parts ≡ workers + workers) × (wholes.grants.amount ≡ 0) }
+        ensures numbers { (result.0.first ≡ 1) × (result.0.count ≡ workers) }
         ensures asked { result.0.asked.parts ≡ workers + workers }
         ensures grants { result.0.grants.parts ≡ workers + workers }
         ensures panel { K.gives steering.panel result.1.0 result.1.1 result.1.2.amount }
@@ -370,7 +374,8 @@ impl<
                     × (shares.asked.parts ≡ workers + workers) × (shares.asked.amount ≡ 0)
                     × (shares.refused.parts ≡ workers + workers)
                     × (shares.granted.parts ≡ workers + workers) × (shares.granted.amount ≡ 0) }
-                ensures { (result.asked.parts ≡ workers + workers)
+                ensures { (result.first ≡ 1) × (result.count ≡ workers)
+                    × (result.asked.parts ≡ workers + workers)
                     × (result.grants.parts ≡ workers + workers) }
             { pump_beside::<R, N, D, B>(rt, alloc, locks, words, tools, workers, shares, pumps) },
             move || -> (K, PanelEnd, Share<Makes<B>>)
@@ -450,6 +455,8 @@ impl<D: DeskCalls + Send + Drop, B: Ledgers + Send + Sync> OpenedBooks<D, B> {
             rt, alloc, words, threads, workers, steering, wholes,
         );
         let Sums {
+            first: _,
+            count: _,
             requests,
             granted,
             asked,

@@ -54,7 +54,7 @@ pub kept_position : {X : Type 0} (p : X → Bool) → (xs : List X) (i : ℕ) (y
 kept_position p xs i y d w h n =
     ap (λ len. stands len (position_or_len p (set xs i y))) (length-set xs i y)
     ∙ ap (stands (length xs)) (kept_first p xs i y d h
-        (λ e. n (ap (stands (length xs)) e ∙ ap (λ z. cond z (Some i) None) short)))
+    (λ e. n (ap (stands (length xs)) e ∙ ap (λ z. cond z (Some i) None) short)))
   where
     short : nat_lt i (length xs) ≡ true
     short = grind (arith, w)
@@ -66,7 +66,7 @@ pub longer : (question other : ℕ) (queues : List WaitQueue) (at n : ℕ)
     ≡ place_of other queues
 longer question other queues at n t e =
     kept_position (is_for other) queues at y y found.0 (λ f. absurd (mine f))
-        (λ f. theirs (position-Some (is_for other) queues at y f).1)
+    (λ f. theirs (position-Some (is_for other) queues at y f).1)
   where
     y : WaitQueue
     y = record { question = question; length = n }
