@@ -3,6 +3,7 @@ ghost use Rattle.std.specs.Prelude.{◌≡◌, [], IfOk, IfErr, IfSome, Some, mi
 ghost use Rattle.std.specs.Option.{option_map};
 ghost use Rattle.sq_desk.specs.Calling.{IsUnbegun};
 ghost use Rattle.sq_outside.specs.Causes.{count_limit};
+ghost use Rattle.sq_pools.specs.Basins.{HasBegun, HasBegunTags};
 ghost use Rattle.sq_pools.specs.Granting.{granted_together};
 ghost use Rattle.sq_server.specs.Beginning.{HasCountedNone};
 
@@ -87,6 +88,9 @@ pub(crate) fn begin<J: Journal, B: Before + DeskStart>(
     requires first { B.first ≡ record { config = start.setup; offset = start.offset } }
     requires before { B.faults ≡ J.faults journal }
     requires empty { IfSome (J.history journal) (λ h. h ≡ []) }
+    // The pools of both kinds begin at this moment, with the generation of the first epoch.
+    ensures pools { IfOk result
+        (λ m. HasBegun m.pools 1 start.setup now × HasBegunTags m.tags 1 start.setup now) }
     ensures begun { IfOk result
         (λ m. HasCountedNone m.desk.notes.history (Some m.desk.notes.made)
         (min m.desk.notes.refusals count_limit) (granted_together m.pools m.tags)) }

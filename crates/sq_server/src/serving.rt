@@ -1,5 +1,5 @@
 //! `serve`: a server from its beginning to its end.
-ghost use Rattle.std.specs.Prelude.{◌≡◌, ◌+◌, ◌<◌, ◌≤◌, ◌^◌, ℕ, [], min, true, false, IfOk, IfErr, IfSome};
+ghost use Rattle.std.specs.Prelude.{◌≡◌, ◌+◌, ◌<◌, ◌≤◌, ◌^◌, ℕ, [], is_some, min, true, false, IfOk, IfErr, IfSome};
 ghost use Rattle.std.specs.Option.{ForSome};
 ghost use Rattle.sq_outside.specs.Causes.{Rose, count_limit};
 ghost use Rattle.sq_shared.specs.Books.{asks_in};
@@ -39,9 +39,11 @@ fn journal_of<J: Journal, B: Before + DeskStart>(desk: Desk<Watched<J, B>, B>) -
     desk.finish().finish()
 }
 
-// How many pumps there are.
+// How many pumps there are: one, and one for the rewriter, if there is one.
 fn pump_count(config: &Config) -> u32
-    ensures { result ≤ 2 }
+    ensures few { result ≤ 2 }
+    ensures both { is_some config.now.rewriter ≡ true → result ≡ 2 }
+    ensures alone { is_some config.now.rewriter ≡ false → result ≡ 1 }
 {
     if config.rewriter().is_some() { 2 } else { 1 }
 }

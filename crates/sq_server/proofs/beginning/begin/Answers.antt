@@ -1,4 +1,6 @@
 use Rattle.std.proofs.Common.{◌≡◌, [], IfSome, sym, subst}
+use Rattle.sq_rules.specs.Configurations.{Configuration}
+use Rattle.sq_pools.specs.Basins.{HasBegun, HasBegunTags}
 use Rattle.sq_server.proofs.BeginLaws.{has_counted}
 use Rattle.sq_server.proofs.beginning.begin.Goals as goal
 
@@ -11,3 +13,10 @@ returns-in-Ok-new-2-clause-begun g c =
     has_counted (g.J.Journal.history c.new-watched.result.journal) d.notes.history c.args.now d.notes.made
     d.notes.refusals c.in-Ok.pools.granted c.in-Ok-new.tags.granted c.args.start.offset
     none begun.history begun.made begun.refusals c.in-Ok.ensures.granted c.in-Ok-new.ensures.granted
+
+pub returns-in-Ok-new-2-clause-pools : goal.returns-in-Ok-new-2-clause-pools
+returns-in-Ok-new-2-clause-pools g c = (
+  subst (λ (k : Configuration). HasBegun c.in-Ok.pools 1 k c.args.now) c.config.ensures c.in-Ok.ensures,
+  subst (λ (k : Configuration). HasBegunTags c.in-Ok-new.tags 1 k c.args.now) c.config-in-Ok.ensures
+      c.in-Ok-new.ensures,
+)
