@@ -1,13 +1,15 @@
 -- How a server ends, and what came of it.
-use Rattle.std.proofs.Common.{◌≡◌, ◌⊎◌, inl, inr, ℕ, ℤ, pos, ◌+◌, ◌<◌, ◌≤◌, List, [], ◌∷◌, ◌++◌, Bool, true, false, min, Result, Ok, Err, Some, None, IfSome, refl, sym, ap, ◌∙◌, subst, unwrap_or, arith}
+use Rattle.std.proofs.Common.{◌≡◌, ◌⊎◌, inl, inr, ℕ, ℤ, pos, ◌+◌, ◌<◌, ◌≤◌, List, [], ◌∷◌, ◌++◌, All, Bool, true, false, min, Result, Ok, Err, Some, None, IfSome, refl, sym, ap, ◌∙◌, subst, unwrap_or, arith}
 use Rattle.std.specs.Option.{ForSome}
 use Rattle.std.specs.declared.option.Option.{Option}
 use Rattle.std.specs.Io.KnownBytes.{Appends}
 use Rattle.std.proofs.KnownBytes.{Appends-nil, Appends-trans}
+use Rattle.std.proofs.lemmas.List.Elements.{All-append, All-cons, All-nil}
 use Rattle.sq_outside.specs.Causes.{Rose, TakesBack, count_limit}
+use Rattle.sq_outside.specs.Input.{OpensAtMost}
 use Rattle.sq_outside.specs.Output.{Grew, IsProperPrefix, IsWritten}
 use Rattle.sq_outside.proofs.Writing.{IsPrefix_nil}
-use Rattle.sq_outside.specs.Told.{IsNotTold, Openings, Texts}
+use Rattle.sq_outside.specs.Told.{IsNotTold, Opening, Openings, Texts}
 use Rattle.sq_rules.specs.Configurations.{Configuration}
 use Rattle.sq_machine.specs.Entries.{History}
 use Rattle.sq_machine.specs.Readings.{current}
@@ -29,7 +31,7 @@ use Rattle.sq_commands.specs.declared.ends.Status.TheVariants as ends
 use Rattle.sq_server.specs.Service.{CameTo, EndsByLine, EndsOver, EndsWell, IsConf, IsServed, IsServerEnd, IsService, IsServiceEnd, IsTrueOrEmpty, IsTrueOver, IsUnservedEnd, RunsOrNot, beginning_of, ended_status, port_of, server_seen, stopped_line}
 use Rattle.sq_commands.proofs.EndLaws.{empty_line}
 use Rattle.sq_replay.specs.Openings.{Added}
-use Rattle.sq_replay.proofs.OpenedLaws.{Added_map}
+use Rattle.sq_replay.proofs.OpenedLaws.{Added_map, Added_none, Added_one, Added_then}
 use Rattle.sq_server.proofs.TrueLaws.{journal_true, true_ran, true_unran}
 
 pub stopped_is : (e : PanelEnd) (stopped failed : Bool) → ended_status e stopped failed ≡ ends.JournalFault
@@ -232,18 +234,55 @@ over_all texts name s o (Some disk) c = over_err texts name (conf_stage name (di
 no_end : (texts : Texts) (name : List ℕ) (s t : Status) → IsOpenEnd texts name s → s ≡ t → IsOpenEnd texts name t
 no_end texts name s t o e = subst (IsOpenEnd texts name) e o
 
-empty_over : (s : Server) (texts : Texts) (before : Openings) (history : Option History) → IfSome history (λ h. h ≡ [])
-    → IfSome history (λ h. (h ≡ []) ⊎ IsTrueOver s texts before h)
-empty_over s texts before None e = tt
-empty_over s texts before (Some h) e = inl e
+empty_over : (s : Server) (texts : Texts) (before now : Openings) (history : Option History)
+    → IfSome history (λ h. h ≡ []) → IfSome history (λ h. (h ≡ []) ⊎ IsTrueOver s texts before now h)
+empty_over s texts before now None e = tt
+empty_over s texts before now (Some h) e = inl e
 
-true_over : (s : Server) (texts : Texts) (before begun : Openings) (config : Configuration) (history : Option History)
-    → IsConf texts s.conf before begun config → IsTrueOrEmpty (beginning_of s config) history
-    → IfSome history (λ h. (h ≡ []) ⊎ IsTrueOver s texts before h)
-true_over s texts before begun config None conf is = tt
-true_over s texts before begun config (Some h) conf (inl empty) = inl empty
-true_over s texts before begun config (Some h) conf (inr is) =
-    inr (record { config = config; begun = begun; conf = conf; is_true = is })
+-- all of these openings are of the file of this name
+abbrev AreOf : List ℕ → List Opening → Type 0
+AreOf name more = All (λ (o : Opening). o.name ≡ name) more
+
+one_of : (name text : List ℕ) → AreOf name (record { name = name; text = text } ∷ [])
+one_of name text = All-cons (λ (o : Opening). o.name ≡ name) (record { name = name; text = text }) [] refl
+    (All-nil (λ (o : Opening). o.name ≡ name))
+
+most_of : (before now : Openings) (name : List ℕ) → OpensAtMost before now name → Added before now (AreOf name)
+most_of before now name (inl same) = Added_none before now (AreOf name) same (All-nil (λ (o : Opening). o.name ≡ name))
+most_of before now name (inr one) = Added_one before now name (λ _. Unit {0}) (AreOf name) one
+    (λ text t. one_of name text)
+
+-- what a control opened is the file of its name, each time
+rereads_of : (texts : Texts) (name : List ℕ) (before now : Seen) (rereads : List Reread)
+    → AreReread texts name before rereads now → Added before.files.opened now.files.opened (AreOf name)
+rereads_of texts name before now [] same = Added_none before.files.opened now.files.opened (AreOf name)
+    (ap (λ (s : Seen). s.files.opened) same) (All-nil (λ (o : Opening). o.name ≡ name))
+rereads_of texts name before now (r ∷ older) (mid, are, is) =
+    Added_then before.files.opened mid.files.opened now.files.opened (AreOf name) (AreOf name) (AreOf name)
+    (rereads_of texts name before mid older are) (most_of mid.files.opened now.files.opened name is.opened)
+    (λ first next f n. All-append (λ (o : Opening). o.name ≡ name) next first n f)
+
+-- and so is what a server opened once it had read its configuration
+ran_of : (texts : Texts) (name : List ℕ) (port : ℕ) (begun g : FilesSeen) (v w : Streams) (status : Status)
+    → RunsOrNot texts name port begun g v w status → Added begun.opened g.opened (AreOf name)
+ran_of texts name port begun g v w status (inl (files, same, u)) = Added_none begun.opened g.opened (AreOf name)
+    (ap (λ (f : FilesSeen). f.opened) files) (All-nil (λ (o : Opening). o.name ≡ name))
+ran_of texts name port begun g v w status (inr run) = by run.runs
+  where
+    by : Runs texts name port begun g v w (record { end = run.end; made = run.made })
+        → Added begun.opened g.opened (AreOf name)
+    by (desk, later, none, made, attends) = rereads_of texts name (record { files = begun; desk = desk })
+        (record { files = g; desk = later }) attends.rereads attends.are
+
+true_over : (s : Server) (texts : Texts) (before begun now : Openings) (config : Configuration)
+    (history : Option History)
+    → IsConf texts s.conf before begun config → Added begun now (AreOf s.conf)
+    → IsTrueOrEmpty (beginning_of s config) history
+    → IfSome history (λ h. (h ≡ []) ⊎ IsTrueOver s texts before now h)
+true_over s texts before begun now config None conf rest is = tt
+true_over s texts before begun now config (Some h) conf rest (inl empty) = inl empty
+true_over s texts before begun now config (Some h) conf rest (inr is) =
+    inr (record { config = config; begun = begun; conf = conf; rest = rest; is_true = is })
 
 open_end : (texts : Texts) (name : List ℕ) (s : Status) → IsOpenEnd texts name s → IsServiceEnd s
 open_end texts name ends.ReadFault o = tt
@@ -300,7 +339,7 @@ conf_failed s texts f g v jb nb history status o comes read empty later opened =
       (λ more. IsOnce s.conf more × EndsOver (conf_stage s.conf (first_text more)) status)
       (λ more p. (p.0, over_err texts s.conf (conf_stage s.conf (first_text more)) status o p.1)) opened)
       refl (λ w. no_end texts s.conf status ends.WriteFault o w);
-  is_true = empty_over s texts f.opened history empty;
+  is_true = empty_over s texts f.opened g.opened history empty;
   read = λ e. inl (read e);
   write = λ e. absurd (no_end texts s.conf status ends.WriteFault o e);
   journal = λ e. absurd (no_end texts s.conf status ends.JournalFault o e);
@@ -356,7 +395,7 @@ net_failed s texts f g v jb nb nn history config comes rose net empty later open
   ok = λ e. absurd (cc);
   bytes = λ e. unrun s texts f g v v ends.Net (opened_over s.conf f.opened g.opened config ends.Net tt opened) refl
       (λ w. cc);
-  is_true = empty_over s texts f.opened history empty;
+  is_true = empty_over s texts f.opened g.opened history empty;
   read = λ e. absurd (cc);
   write = λ e. absurd (cc);
   journal = λ e. absurd (cc);
@@ -483,7 +522,8 @@ served_service s texts f begun g v w x jb jn nb nm nn ln port history config sta
           };
       bytes = run_told s texts f begun g v w x port config status r is_port conf served.end served.ran settled kept
           short;
-      is_true = true_over s texts f.opened begun.opened config history conf served.is_true;
+      is_true = true_over s texts f.opened begun.opened g.opened config history conf
+          (ran_of texts s.conf port begun g v w status served.ran) served.is_true;
       read = λ e. inr (subst (λ (n : ℕ). Rose v.input_faults n) (sym input)
           (served.read (settled_is status r ends.ReadFault settled e (λ n. cc))));
       write = λ e. wrote (unwritten e);

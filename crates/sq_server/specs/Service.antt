@@ -1,6 +1,6 @@
 -- In the statement: docs/STATEMENT.md lists which definitions.
 -- What comes of a server.
-use Rattle.std.specs.Prelude.{◌≡◌, ◌⊎◌, ℕ, pos, ◌+◌, ◌<◌, ◌≤◌, List, [], ◌∷◌, ◌++◌, Bool, true, false, codes, min, unwrap_or, IfSome}
+use Rattle.std.specs.Prelude.{◌≡◌, ◌⊎◌, ℕ, pos, ◌+◌, ◌<◌, ◌≤◌, List, [], ◌∷◌, ◌++◌, All, Bool, true, false, codes, min, unwrap_or, IfSome}
 use Rattle.std.specs.Io.KnownBytes.{Appends}
 use Rattle.std.specs.Option.{ForSome}
 use Rattle.std.specs.declared.option.Option.{Option}
@@ -8,7 +8,7 @@ use Rattle.std.specs.declared.result.Result.{Result}
 use Rattle.std.specs.declared.result.Result.TheVariants as result
 use Rattle.sq_outside.specs.Causes.{Rose, count_limit}
 use Rattle.sq_outside.specs.Output.{Grew, IsProperPrefix, IsWritten}
-use Rattle.sq_outside.specs.Told.{IsNotTold, Openings, Texts}
+use Rattle.sq_outside.specs.Told.{IsNotTold, Opening, Openings, Texts}
 use Rattle.sq_rules.specs.Configurations.{Configuration}
 use Rattle.sq_machine.specs.Entries.{History}
 use Rattle.sq_machine.specs.Readings.{current, offset_of}
@@ -210,11 +210,14 @@ pub record EndsByLine (line : List ℕ) (s : Server) (texts : Texts)
   pub writes : Grew told.contents streams_now.contents
       (IsWritten told.output_faults streams_now.output_faults line)
 
--- the history is true from the configuration of the file and the stated offset on
-pub record IsTrueOver (s : Server) (texts : Texts) (before : Openings) (h : History) : Type 0 where
+-- The history is true from the configuration of the file and the stated offset on. That file was
+-- opened first, and each later opening was of it, too.
+pub record IsTrueOver (s : Server) (texts : Texts) (before now : Openings)
+    (h : History) : Type 0 where
   pub config : Configuration
   pub begun : Openings
   pub conf : IsConf texts s.conf before begun config
+  pub rest : Added begun now (λ more. All (λ (o : Opening). o.name ≡ s.conf) more)
   pub is_true : IsTrueFrom (beginning_of s config) h
 
 -- what came of a server by its words, which where it did not end well wrote this line last: by what
@@ -225,7 +228,8 @@ pub record CameTo (line : List ℕ) (s : Server) (texts : Texts) (before now : S
       → EndsWell s texts before.files now.files before.streams now.streams history
   pub bytes : (status ≡ ends.Ok → ⊥)
       → EndsByLine line s texts before.files now.files before.streams now.streams status
-  pub is_true : IfSome history (λ h. (h ≡ []) ⊎ IsTrueOver s texts before.files.opened h)
+  pub is_true : IfSome history (λ h. (h ≡ [])
+      ⊎ IsTrueOver s texts before.files.opened now.files.opened h)
   pub read : status ≡ ends.ReadFault → Rose before.files.faults now.files.faults
       ⊎ Rose before.streams.input_faults now.streams.input_faults
   pub write : status ≡ ends.WriteFault
