@@ -45,6 +45,30 @@ fn one_worker_serves_each_link(rt: HostRuntime) {
     assert!(rt; came.got.as_str() == DENIED);
 }
 
+#[test]
+fn four_thousand_workers_serve_three_links(rt: HostRuntime) {
+    let three = Job {
+        workers: b"4096",
+        clients: &[
+            (0x0a00_0001, REQUEST),
+            (0x0a00_0002, REQUEST),
+            (0x0a00_0003, REQUEST),
+        ],
+        ..job()
+    };
+    let came = run(&rt, rt.alloc(), &three);
+    assert!(rt; came.code == 0);
+    assert!(rt; came.out.as_str() == "listening 3128\nstopped\n");
+    assert!(rt; came.got.as_str() == DENIED);
+    let more = Job {
+        workers: b"4097",
+        ..three
+    };
+    let came = run(&rt, rt.alloc(), &more);
+    assert!(rt; came.code == 1);
+    assert!(rt; came.got.as_str() == "");
+}
+
 /// Connections from 10.0.0.1 wait for the helper, which answers once the second client has its reply.
 const GATE: &[u8] =
     b"external_acl_type v %>rd /bin/h\nacl slow src 10.0.0.1\nacl x external v\nhttp_access deny slow x\nhttp_access deny all\n";
