@@ -17,6 +17,6 @@ returns-in-Ok-new-2-clause-begun g c =
 pub returns-in-Ok-new-2-clause-pools : goal.returns-in-Ok-new-2-clause-pools
 returns-in-Ok-new-2-clause-pools g c = (
   subst (λ (k : Configuration). HasBegun c.in-Ok.pools 1 k c.args.now) c.config.ensures c.in-Ok.ensures,
-  subst (λ (k : Configuration). HasBegunTags c.in-Ok-new.tags 1 k c.args.now) c.config-in-Ok.ensures
+  subst (λ (k : Configuration). HasBegunTags c.in-Ok-new.tags 1 k c.args.now) c.config-2.ensures
       c.in-Ok-new.ensures,
 )
