@@ -199,7 +199,8 @@ pub(crate) struct ClientSlots {
 }
 
 // The number of the thread that calls: the last part of a text such as `812/task/815`. This is the system's own call, since std's
-// takes 12 KiB of the stack, which each worker would hold from then on.
+// takes 12 KiB of the stack, and this one 8, which each worker that waits would hold if they were part of a caller's frame.
+#[inline(never)]
 fn thread() -> Option<u64> {
     let mut text = [0u8; 64];
     let count = usize::try_from(os::readlink(b"/proc/thread-self", &mut text)).ok()?;
