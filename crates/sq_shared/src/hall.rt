@@ -1,5 +1,6 @@
 //! The desk, as it lies behind its lock, with its three books.
-ghost use Rattle.std.specs.Prelude.{◌≡◌, ◌==◌, ◌≢◌, ◌+◌, ◌<◌, ℕ, [], Some, false, min, nat_lt, slice_index_or, true, is_some, IfSome};
+ghost use Rattle.std.specs.Prelude.{◌≡◌, ◌==◌, ◌≢◌, ◌+◌, ◌<◌, ℕ, [], Some, false, min, nat_lt, slice_index_or, true, is_some, IfOk, IfSome};
+ghost use Rattle.std.specs.Arc.{arc_value};
 ghost use Rattle.sq_shared.specs.declared.wait_queues.WaitQueue.{WaitQueue};
 ghost use Rattle.std.specs.Option.{ForSome};
 ghost use Rattle.sq_outside.specs.Causes.{count_limit};
@@ -116,18 +117,23 @@ impl<D: DeskCalls, B: Ledgers> Hall<D, B> {
         }
     }
 
-    /// A copy of the words of the program of a class.
+    /// A copy of the words of the program of a class of a live epoch, as the desk has them.
     pub fn words(
         &self,
         alloc: Global,
         epoch: EpochNo,
         class: u32,
-    ) -> Result<Option<Texts>, WantOfMemory> {
+    ) -> Result<Option<Texts>, WantOfMemory>
+        ensures { IfSome (D.programs self.now.desk epoch class) (λ p. IfOk result (λ t. t ≡ p)) }
+    {
         self.desk.words(alloc, epoch, class)
     }
 
-    /// The configuration of a live epoch.
-    pub fn config(&self, epoch: EpochNo) -> Option<Arc<Config>> {
+    /// The configuration of a live epoch, as the desk has it.
+    pub fn config(&self, epoch: EpochNo) -> Option<Arc<Config>>
+        ensures { IfSome (D.configs self.now.desk epoch)
+            (λ o. IfSome result (λ c. o ≡ Some (arc_value c))) }
+    {
         self.desk.config(epoch)
     }
 

@@ -1,10 +1,11 @@
 //! The calls of the desk under its lock, each counted. Those of a session are made at the moment that its clock gives
-//! there.
+//! there: it is the moment of the entry, and that at which a refusal is the machine's.
 ghost use Rattle.std.specs.Prelude.{◌≡◌, ◌+◌, ◌<◌, [], true, IfNone, IfOk, IfSome, IsErrOf, OnErr, OnSome, nat_lt};
 ghost use Rattle.sq_calls.specs.declared.faults.DeskFault.TheVariants as fault;
 ghost use Rattle.sq_calls.specs.Legality.{IsStated};
 ghost use Rattle.sq_calls.specs.Moments.{AtMoment};
-ghost use Rattle.sq_calls.specs.Telling.{IsAsking, IsClosing, IsDead, IsFailed, IsLine, IsOpening, IsReread, IsStarted, IsStep, IsStepTold, IsTakeTold, IsTaking, IsUnrefused, MayAct, Notes, NotesAs, got_told};
+ghost use Rattle.sq_calls.specs.Telling.{IsAsking, IsClosing, IsDead, IsFailed, IsLine, IsOpening, IsReread, IsStarted, IsStep, IsStepTold, IsTakeTold, IsTaking, IsUnrefused, MayAct, Notes, NotesAs, Refuses, RefusesAt, got_told, reports_stop};
+ghost use Rattle.sq_machine.specs.declared.entries.Event.TheVariants as event;
 ghost use Rattle.sq_machine.specs.declared.entries.Told.TheVariants as answer;
 ghost use Rattle.sq_shared.specs.Books.{SharesLine, SharesMade, SharesRefusal};
 ghost use Rattle.sq_shared.specs.Waking.{after_line, after_step, current_after, may_ask, oldest_after, one_more, raised_if};
@@ -38,7 +39,8 @@ impl<D: DeskCalls, B: Ledgers> Hall<D, B> {
         requires { 0 < refused.old.parts }
         ensures noted { AtMoment (C.moments clock.old) (C.moments clock.new)
             (λ now. Notes D.first now (λ _. answer.Fine) (IsOpening conn addr port)
-            (D.told self.old.desk) (D.told self.new.desk) result) }
+            (D.told self.old.desk) (D.told self.new.desk) result
+            × Refuses D.first now (event.Open conn addr port) (D.told self.old.desk) result) }
         ensures refused { SharesRefusal refused.old.amount refused.new.amount result }
         ensures parts { refused.new.parts ≡ refused.old.parts }
         ensures changes { self.new.changes ≡ self.old.changes }
@@ -62,7 +64,8 @@ impl<D: DeskCalls, B: Ledgers> Hall<D, B> {
         requires { 0 < refused.old.parts }
         ensures noted { AtMoment (C.moments clock.old) (C.moments clock.new)
             (λ now. Notes D.first now (λ _. answer.Fine) (IsClosing conn) (D.told self.old.desk)
-            (D.told self.new.desk) result) }
+            (D.told self.new.desk) result
+            × Refuses D.first now (event.Close conn) (D.told self.old.desk) result) }
         ensures memory { IsErrOf result fault.WantOfMemory → ⊥ }
         ensures refused { SharesRefusal refused.old.amount refused.new.amount result }
         ensures parts { refused.new.parts ≡ refused.old.parts }
@@ -101,7 +104,10 @@ impl<D: DeskCalls, B: Ledgers> Hall<D, B> {
         requires refused { 0 < refused.old.parts }
         ensures noted { AtMoment (C.moments clock.old) (C.moments clock.new)
             (λ now. Notes D.first now answer.Check (IsAsking conn request) (D.told self.old.desk)
-            (D.told self.new.desk) result) }
+            (D.told self.new.desk) result
+            × Refuses D.first now
+            (event.Ask conn request.method request.target request.fields) (D.told self.old.desk)
+            result) }
         ensures asked { SharesMade asked.old.amount asked.new.amount result }
         ensures asked_parts { asked.new.parts ≡ asked.old.parts }
         ensures refused { SharesRefusal refused.old.amount refused.new.amount result }
@@ -134,7 +140,8 @@ impl<D: DeskCalls, B: Ledgers> Hall<D, B> {
         requires { 0 < refused.old.parts }
         ensures noted { AtMoment (C.moments clock.old) (C.moments clock.new)
             (λ now. NotesAs D.first now IsStepTold (IsStep check) (D.told self.old.desk)
-            (D.told self.new.desk) result) }
+            (D.told self.new.desk) result
+            × Refuses D.first now (event.Step check) (D.told self.old.desk) result) }
         ensures refused { SharesRefusal refused.old.amount refused.new.amount result }
         ensures parts { refused.new.parts ≡ refused.old.parts }
         ensures changes { self.new.changes ≡ raised_if (may_ask result) self.old.changes }
@@ -173,7 +180,8 @@ impl<D: DeskCalls, B: Ledgers> Hall<D, B> {
         requires { 0 < refused.old.parts }
         ensures noted { AtMoment (C.moments clock.old) (C.moments clock.new)
             (λ now. NotesAs D.first now IsTakeTold (IsTaking check) (D.told self.old.desk)
-            (D.told self.new.desk) result) }
+            (D.told self.new.desk) result
+            × Refuses D.first now (event.Take check) (D.told self.old.desk) result) }
         ensures record { IfOk result (λ r. r.check ≡ check) }
         ensures refused { SharesRefusal refused.old.amount refused.new.amount result }
         ensures parts { refused.new.parts ≡ refused.old.parts }
@@ -211,6 +219,9 @@ impl<D: DeskCalls, B: Ledgers> Hall<D, B> {
         ensures noted { Notes D.first now answer.Proc
             (IsStarted D.first (D.told self.old.desk) epoch class) (D.told self.old.desk)
             (D.told self.new.desk) result }
+        ensures refuses { RefusesAt D.first now (λ name. event.Started epoch name) epoch class
+            (D.told self.old.desk) result }
+        ensures stopped { D.is_stopped self.new.desk ≡ reports_stop result }
         ensures refused { SharesRefusal refused.old.amount refused.new.amount result }
         ensures parts { refused.new.parts ≡ refused.old.parts }
         ensures changes { self.new.changes ≡ one_more self.old.changes }
@@ -242,6 +253,9 @@ impl<D: DeskCalls, B: Ledgers> Hall<D, B> {
         ensures noted { Notes D.first now (λ _. answer.Fine)
             (IsFailed D.first (D.told self.old.desk) epoch class) (D.told self.old.desk)
             (D.told self.new.desk) result }
+        ensures refuses { RefusesAt D.first now (λ name. event.StartFail epoch name) epoch class
+            (D.told self.old.desk) result }
+        ensures stopped { D.is_stopped self.new.desk ≡ reports_stop result }
         ensures refused { SharesRefusal refused.old.amount refused.new.amount result }
         ensures parts { refused.new.parts ≡ refused.old.parts }
         ensures changes { self.new.changes ≡ one_more self.old.changes }
@@ -274,6 +288,9 @@ impl<D: DeskCalls, B: Ledgers> Hall<D, B> {
         requires { 0 < refused.old.parts }
         ensures noted { Notes D.first now got_told (IsLine proc bytes.now) (D.told self.old.desk)
             (D.told self.new.desk) result }
+        ensures refuses { Refuses D.first now (event.Line proc bytes.now) (D.told self.old.desk)
+            result }
+        ensures stopped { D.is_stopped self.new.desk ≡ reports_stop result }
         ensures refused { SharesLine refused.old.amount refused.new.amount result }
         ensures parts { refused.new.parts ≡ refused.old.parts }
         ensures changes { self.new.changes ≡ one_more self.old.changes }
@@ -306,6 +323,8 @@ impl<D: DeskCalls, B: Ledgers> Hall<D, B> {
         ensures noted { Notes D.first now (λ _. answer.Fine) (IsDead proc) (D.told self.old.desk)
             (D.told self.new.desk) result }
         ensures memory { IsErrOf result fault.WantOfMemory → ⊥ }
+        ensures refuses { Refuses D.first now (event.Died proc) (D.told self.old.desk) result }
+        ensures stopped { D.is_stopped self.new.desk ≡ reports_stop result }
         ensures refused { SharesRefusal refused.old.amount refused.new.amount result }
         ensures parts { refused.new.parts ≡ refused.old.parts }
         ensures changes { self.new.changes ≡ one_more self.old.changes }
@@ -336,6 +355,8 @@ impl<D: DeskCalls, B: Ledgers> Hall<D, B> {
         requires { 0 < refused.old.parts }
         ensures noted { MayAct D.first now (D.told self.old.desk) (D.told self.new.desk) result }
         ensures unrefused { IsUnrefused result }
+        ensures refuses { Refuses D.first now event.Act (D.told self.old.desk) result }
+        ensures stopped { D.is_stopped self.new.desk ≡ reports_stop result }
         ensures refused { SharesRefusal refused.old.amount refused.new.amount result }
         ensures parts { refused.new.parts ≡ refused.old.parts }
         ensures changes { self.new.changes ≡ self.old.changes }
@@ -379,6 +400,9 @@ impl<D: DeskCalls, B: Ledgers> Hall<D, B> {
         requires refused { 0 < refused.old.parts }
         ensures noted { Notes D.first now answer.Epoch (IsReread setup) (D.told self.old.desk)
             (D.told self.new.desk) result }
+        ensures refuses { Refuses D.first now (event.Reconfigure setup.source)
+            (D.told self.old.desk) result }
+        ensures rereads { D.rereads self.old.desk setup now result self.new.desk }
         ensures made { SharesMade made.old.amount made.new.amount result }
         ensures made_parts { made.new.parts ≡ made.old.parts }
         // Where the share is the whole book's, it tells the number of the epoch.
