@@ -1,3 +1,4 @@
 mod BookLaws
+mod DoorLaws
 mod QueueLaws
 mod ShareLaws

@@ -1,3 +1,4 @@
 pub mod Books
+pub mod Doors
 pub mod Ledgers
 pub mod Waking

@@ -3,18 +3,23 @@
 ghost use Rattle.std.specs.Prelude.{◌≡◌, ◌+◌, ◌<◌};
 ghost use Rattle.sq_outside.specs.Dials.{IsOpen};
 ghost use Rattle.sq_outside.specs.World.{IfLink};
+ghost use Rattle.sq_shared.specs.Doors.{ComesFrom};
 
 use crate::door::Door;
 use sq_outside::{Accepted, Listener};
 use std::alloc::Global;
 use std::sync::{Mutex, Wait};
 
-/// Waits for the next link. The lock is held until one comes.
+/// Waits for the next link, which is one that the listener gave in some state of it. The lock is held until one comes.
+#[tactic(auto, using(crate::proofs::DoorLaws::comes_from))]
 pub fn accept<R: Wait, L: Listener + Drop>(
     rt: &R,
     alloc: Global,
     door: &Mutex<Door<L>>,
 ) -> Accepted<L::In, L::Outgo>
+    ensures link { IfLink result
+        (λ from to addr port. ComesFrom L.coming addr port (L.In.left from)
+        (L.Outgo.Sink.contents to)) }
     ensures open { IfLink result (λ from to addr port. IsOpen (L.Outgo.closed to)) }
     ensures fresh { IfLink result
         (λ from to addr port. (L.In.faults from ≡ 0) × (L.Outgo.Sink.faults to ≡ 0)) }

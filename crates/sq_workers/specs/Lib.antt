@@ -1,1 +1,2 @@
 pub mod HubFaults
+pub mod Untold

@@ -5,6 +5,7 @@ ghost use Rattle.sq_outside.specs.Dials.{IsClosed};
 ghost use Rattle.sq_turns.specs.Pieces.{hub_seen};
 ghost use Rattle.sq_turns.specs.Sessions.{session_seen};
 ghost use Rattle.sq_turns.specs.Told.{SessionTold};
+ghost use Rattle.sq_workers.specs.Untold.{front_untold};
 
 use crate::lock_hub::{LockHub, Shares};
 use crate::rooms::SessionRooms;
@@ -38,7 +39,7 @@ pub(crate) type LinkEnds<W> = (
 );
 
 /// Serves a link as the connection of the number of its worker. Its session begins with shares of its own in which nothing is
-/// counted; what it asked and was granted is added to the sums.
+/// counted; what it asked and was granted is added to the sums. It gives back the half of the link that was written to.
 #[inline(never)]
 pub(crate) fn attend<R: Threads + Wait + Sync, W: WorkerTypes, D: DeskCalls, B: Ledgers>(
     rt: &R,
@@ -49,25 +50,33 @@ pub(crate) fn attend<R: Threads + Wait + Sync, W: WorkerTypes, D: DeskCalls, B: 
     clock: W::C,
     refused: &mut Share<Refusals<B>>,
     sums: &mut Sums<B>,
-) -> SessionEnd
+) -> (SessionEnd, <W::L as Listener>::Outgo)
     requires number { (link.conn ≡ sums.old.first) × (sums.old.count ≡ 1) }
     requires asked { sums.old.asked.parts ≡ 2 }
     requires grants { sums.old.grants.parts ≡ 2 }
     requires refused { refused.old.parts ≡ 2 }
+    // Where the link and the dialer tell, the session is that of the link's address. The hub tells no journal, so the port, which
+    // stands there alone, is any here.
+    ensures told { SessionTold link.addr link.port (W.L.In.left link.from) (front_untold link.conn)
+        (session_seen (W.L.Outgo.Sink.contents link.to) (W.L.Outgo.Sink.contents result.1) 0
+        result.0.granted (W.D.dialled dialer.old)) (W.D.dialled dialer.new)
+        (Rose (W.D.faults dialer.old) (W.D.faults dialer.new)) result.0.why }
+    ensures closed { IsClosed (W.L.Outgo.closed result.1) }
     ensures numbers { (sums.new.first ≡ sums.old.first) × (sums.new.count ≡ 1) }
-    ensures requests { sums.new.requests ≡ min (sums.old.requests + result.requests) count_limit }
-    ensures granted { sums.new.granted ≡ min (sums.old.granted + result.granted) count_limit }
+    ensures requests { sums.new.requests
+        ≡ min (sums.old.requests + result.0.requests) count_limit }
+    ensures granted { sums.new.granted ≡ min (sums.old.granted + result.0.granted) count_limit }
     ensures asked { sums.new.asked.parts ≡ 2 }
     ensures grants { sums.new.grants.parts ≡ 2 }
     ensures refused { refused.new.parts ≡ 2 }
 {
     let theirs = sums.lend(refused);
-    let (end, back) = serve_link::<R, W, D, B>(rt, alloc, rooms, link, dialer, clock, theirs);
+    let (end, back, to) = serve_link::<R, W, D, B>(rt, alloc, rooms, link, dialer, clock, theirs);
     sums.add(refused, back, end.requests, end.granted);
-    end
+    (end, to)
 }
 
-// Serves a link with these shares, in which nothing is counted yet.
+// Serves a link with these shares, in which nothing is counted yet. It gives back the half of the link that was written to.
 fn serve_link<R: Threads + Wait + Sync, W: WorkerTypes, D: DeskCalls, B: Ledgers>(
     rt: &R,
     alloc: Global,
@@ -76,18 +85,23 @@ fn serve_link<R: Threads + Wait + Sync, W: WorkerTypes, D: DeskCalls, B: Ledgers
     dialer: &mut W::D,
     clock: W::C,
     shares: Shares<B>,
-) -> (SessionEnd, Shares<B>)
+) -> (SessionEnd, Shares<B>, <W::L as Listener>::Outgo)
     requires asked { (shares.asked.parts ≡ 1) × (shares.asked.amount ≡ 0) }
     requires refused { shares.refused.parts ≡ 1 }
     requires granted { (shares.granted.parts ≡ 1) × (shares.granted.amount ≡ 0) }
+    ensures told { SessionTold link.addr link.port (W.L.In.left link.from) (front_untold link.conn)
+        (session_seen (W.L.Outgo.Sink.contents link.to) (W.L.Outgo.Sink.contents result.2) 0
+        result.0.granted (W.D.dialled dialer.old)) (W.D.dialled dialer.new)
+        (Rose (W.D.faults dialer.old) (W.D.faults dialer.new)) result.0.why }
+    ensures closed { IsClosed (W.L.Outgo.closed result.2) }
     ensures requests { result.0.requests ≡ min result.1.asked.amount count_limit }
     ensures granted { result.0.granted ≡ min result.1.granted.amount count_limit }
     ensures parts { (result.1.asked.parts ≡ 1) × (result.1.refused.parts ≡ 1)
         × (result.1.granted.parts ≡ 1) }
 {
     let hub = new_hub(rt, rooms, clock, shares);
-    let (end, hub, _) = serve(rt, alloc, hub, link, dialer);
-    (end, hub.finish())
+    let (end, hub, to) = serve(rt, alloc, hub, link, dialer);
+    (end, hub.finish(), to)
 }
 
 // A hub with these shares, in which nothing is counted yet.

@@ -72,7 +72,7 @@ fn work<R: Threads + Wait + Sync, W: WorkerTypes, D: DeskCalls, B: Ledgers>(
                     port,
                 };
                 let theirs = clock.another();
-                let _end = attend::<R, W, D, B>(
+                let (_end, _to) = attend::<R, W, D, B>(
                     rt,
                     alloc,
                     rooms,
