@@ -16,16 +16,16 @@ use Rattle.sq_turns.proofs.TellLaws.{tells_as}
 opens_fault : (conn : ℕ) (a : Address) (port : ℕ) (fault : HubFault) (v w : HubState)
     → Makes IsFine (event.Open conn a port) (Err fault) v w
     → OpensBy (event.Open conn a port) (opened_of fault) v w.machine
-opens_fault conn a port (Refused (refusal.ConnInUse n)) v w by = (by.answers (λ e. cc), by.unmade)
-opens_fault conn a port (Refused (refusal.UnknownConn n)) v w by = (by.answers (λ e. cc), by.unmade)
+opens_fault conn a port (Refused (refusal.ConnInUse n)) v w by = (by.answers (λ e. cc), by.unmade, λ m e. cc)
+opens_fault conn a port (Refused (refusal.UnknownConn n)) v w by = (by.answers (λ e. cc), by.unmade, λ m e. cc)
 opens_fault conn a port (Refused (refusal.TooManyConns n)) v w by = ((n, by.answers (λ e. cc)), by.unmade)
-opens_fault conn a port (Refused (refusal.CheckOpen n)) v w by = (by.answers (λ e. cc), by.unmade)
-opens_fault conn a port (Refused (refusal.UnknownCheck n)) v w by = (by.answers (λ e. cc), by.unmade)
-opens_fault conn a port (Refused (refusal.NotDone n)) v w by = (by.answers (λ e. cc), by.unmade)
-opens_fault conn a port (Refused (refusal.NoStartOpen e n)) v w by = (by.answers (λ e. cc), by.unmade)
-opens_fault conn a port (Refused (refusal.UnknownProc n)) v w by = (by.answers (λ e. cc), by.unmade)
-opens_fault conn a port (Refused (refusal.TooManyEpochs n)) v w by = (by.answers (λ e. cc), by.unmade)
-opens_fault conn a port (Refused (refusal.Spent n)) v w by = (by.answers (λ e. cc), by.unmade)
+opens_fault conn a port (Refused (refusal.CheckOpen n)) v w by = (by.answers (λ e. cc), by.unmade, λ m e. cc)
+opens_fault conn a port (Refused (refusal.UnknownCheck n)) v w by = (by.answers (λ e. cc), by.unmade, λ m e. cc)
+opens_fault conn a port (Refused (refusal.NotDone n)) v w by = (by.answers (λ e. cc), by.unmade, λ m e. cc)
+opens_fault conn a port (Refused (refusal.NoStartOpen e n)) v w by = (by.answers (λ e. cc), by.unmade, λ m e. cc)
+opens_fault conn a port (Refused (refusal.UnknownProc n)) v w by = (by.answers (λ e. cc), by.unmade, λ m e. cc)
+opens_fault conn a port (Refused (refusal.TooManyEpochs n)) v w by = (by.answers (λ e. cc), by.unmade, λ m e. cc)
+opens_fault conn a port (Refused (refusal.Spent n)) v w by = (by.answers (λ e. cc), by.unmade, λ m e. cc)
 opens_fault conn a port (Refused refusal.WantOfMemory) v w by = by.unmade
 opens_fault conn a port JournalFault v w by = by.unmade
 opens_fault conn a port WantOfMemory v w by = by.unmade

@@ -1,6 +1,6 @@
 -- What the opening of a connection, its close, a question about a request, one to the rewriter and
 -- a seat make of what a hub tells.
-use Rattle.std.specs.Prelude.{◌≡◌, ◌⊎◌, ℕ, ◌==◌, List, [], ◌∷◌, ◌++◌, Bool, true, false, ◌||◌, Some, None, is_some, Ok, Err, ⊤}
+use Rattle.std.specs.Prelude.{◌≡◌, ◌≢◌, ◌⊎◌, ℕ, ◌==◌, List, [], ◌∷◌, ◌++◌, Bool, true, false, ◌||◌, Some, None, is_some, Ok, Err, ⊤}
 use Rattle.std.specs.List.{list_all}
 use Rattle.std.specs.Option.{option_map}
 use Rattle.std.specs.declared.option.Option.{Option}
@@ -50,13 +50,14 @@ use Rattle.sq_turns.specs.declared.hub.HubFault.TheVariants.{Refused, JournalFau
 use Rattle.sq_pools.specs.declared.held_seats.HeldSeat.{HeldSeat}
 use Rattle.sq_pools.specs.declared.held_seats.HeldSeat.TheVariants as held
 
--- how a connection opens: as the machine answers the event
+-- how a connection opens: as the machine answers the event; too many connections are Full, and no
+-- other refusal
 abbrev pub OpensBy : Event → Opened → HubState → State → Type 0
 OpensBy e opened.In old new = IsNext old.machine (machine_now old) e told.Fine new
 OpensBy e opened.Full old new = ((n : ℕ)
     × IsRefused old.machine (machine_now old) e (refusal.TooManyConns n)) × IsSame new old.machine
 OpensBy e (opened.Refused why) old new = IsRefused old.machine (machine_now old) e why
-    × IsSame new old.machine
+    × IsSame new old.machine × ((n : ℕ) → why ≢ refusal.TooManyConns n)
 OpensBy e opened.JournalFault old new = IsSame new old.machine
 OpensBy e opened.WantOfMemory old new = IsSame new old.machine
 
