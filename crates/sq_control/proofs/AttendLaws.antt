@@ -3,6 +3,7 @@ use Rattle.std.proofs.Common.{◌≡◌, ℕ, ◌+◌, ◌≤◌, List, [], ◌�
 use Rattle.std.proofs.KnownBytes.{Appends-trans}
 use Rattle.std.proofs.lemmas.List.Elements.{All-cons, All-nil}
 use Rattle.std.specs.Io.KnownBytes.{Appends}
+use Rattle.std.specs.Prelude.{option_map}
 use Rattle.std.specs.declared.option.Option.{Option}
 use Rattle.sq_outside.specs.Causes.{Rose}
 use Rattle.sq_outside.specs.Output.{Grew, IsProperPrefix}
@@ -10,7 +11,7 @@ use Rattle.sq_outside.specs.SourceLines.{SourceLine, lines}
 use Rattle.sq_outside.specs.Told.{Openings, Texts}
 use Rattle.sq_outside.proofs.Writing.{Grew_proper_after}
 use Rattle.sq_rules.specs.Configurations.{Configuration}
-use Rattle.sq_calls.specs.Moments.{IsTimely}
+use Rattle.sq_calls.specs.Moments.{GrewAt, IsTimely}
 use Rattle.sq_calls.specs.declared.faults.DeskFault.{DeskFault}
 use Rattle.sq_machine.specs.Entries.{History}
 use Rattle.sq_control.specs.declared.panel.PanelEnd.{PanelEnd}
@@ -19,7 +20,7 @@ use Rattle.sq_control.specs.Rereading.{Asks, CountsMade, is_answer}
 use Rattle.sq_control.specs.declared.control.Reread.{Reread}
 use Rattle.sq_control.specs.declared.control.Reread.TheVariants as reread
 use Rattle.sq_control.specs.Attending.{AreReread, Attends, CountsEpochs, HasCauses, HasEpoch, IsFollowed, IsReread, Seen, StatesConfiguration, Streams, counts_made, made_in}
-use Rattle.sq_control.specs.Renewing.{AddsRenewal, GivesConfig, Renewals, Renews}
+use Rattle.sq_control.specs.Renewing.{AddsRenewal, AreRenewed, GivesConfig, Renewals, Renews, Views}
 use Rattle.sq_control.specs.Orders.{IsNext, IsOrdered, counts_with, left_with, lines_left, rereads_in}
 use Rattle.sq_control.specs.ControlText.{control_text, listening_text, reread_text, rereads_text}
 use Rattle.sq_control.specs.declared.orders.Order.{Order}
@@ -77,7 +78,7 @@ count_more (Some m) mid new r older c one =
     let both = one_counted (m + made_in older) new r (subst (λ o. CountsMade o new r) c.1 one) in
     ((both.0, c.0), both.1 ∙ ap (λ (n : ℕ). Some n) (moved_count m (made_in older) r))
 
-none_counted : (old : Option ℕ) → CountsEpochs old old []
+pub none_counted : (old : Option ℕ) → CountsEpochs old old []
 none_counted None = tt
 none_counted (Some m) = (tt, ap (λ (n : ℕ). Some n) (omega arith))
 
@@ -158,22 +159,22 @@ all_followed (Some bytes) (Some rest) now rereads order.Reconfigure noted r i (i
 
 -- what is written
 
-text_more : (port : ℕ) (r : Reread) (older : List Reread)
+pub text_more : (port : ℕ) (r : Reread) (older : List Reread)
     → control_text port (r ∷ older) ≡ control_text port older ++ reread_text r
 text_more port r older = sym (append_assoc (listening_text port) (rereads_text older) (reread_text r))
 
-first_text : (port : ℕ) → control_text port [] ≡ listening_text port
+pub first_text : (port : ℕ) → control_text port [] ≡ listening_text port
 first_text port = append-nil (listening_text port)
 
 -- steps
 
-remains_all : (left : Option (List ℕ)) → Remains left left []
+pub remains_all : (left : Option (List ℕ)) → Remains left left []
 remains_all None = tt
 remains_all (Some bytes) = (omega arith, refl)
 
 -- the port was written
-pub going_begins : (texts : Texts) (name : List ℕ) (port : ℕ) (before : Seen) (v w : Streams) → w.left ≡ v.left
-    → Appends v.contents w.contents (listening_text port)
+unfoldable pub going_begins : (texts : Texts) (name : List ℕ) (port : ℕ) (before : Seen) (v w : Streams)
+    → w.left ≡ v.left → Appends v.contents w.contents (listening_text port)
     → w.input_faults ≡ v.input_faults → w.output_faults ≡ v.output_faults → IsGoing texts name port before before v w
 going_begins texts name port before v w left wrote input output = record {
   rereads = [];
@@ -186,7 +187,7 @@ going_begins texts name port before v w left wrote input output = record {
 }
 
 -- a line ordered nothing
-pub going_on : (texts : Texts) (name : List ℕ) (port : ℕ) (before now : Seen) (v w x : Streams)
+unfoldable pub going_on : (texts : Texts) (name : List ℕ) (port : ℕ) (before now : Seen) (v w x : Streams)
     → IsGoing texts name port before now v w
     → IfSome w.left (λ bytes. IsNext bytes x.left order.Nothing) → x.contents ≡ w.contents
     → x.input_faults ≡ w.input_faults → x.output_faults ≡ w.output_faults
@@ -202,8 +203,8 @@ going_on texts name port before now v w x g next same input output = record {
 }
 
 -- a reconfiguration was made, or not, and its line was written
-pub going_reread : (texts : Texts) (name : List ℕ) (port : ℕ) (before mid now : Seen) (v w x : Streams) (r : Reread)
-    → IsGoing texts name port before mid v w
+unfoldable pub going_reread : (texts : Texts) (name : List ℕ) (port : ℕ) (before mid now : Seen) (v w x : Streams)
+    (r : Reread) → IsGoing texts name port before mid v w
     → IfSome w.left (λ bytes. IsNext bytes x.left order.Reconfigure) → IsReread texts name mid r now
     → (r ≡ reread.Journal → ⊥) → Appends w.contents x.contents (reread_text r)
     → x.input_faults ≡ w.input_faults → x.output_faults ≡ w.output_faults → IsGoing texts name port before now v x
@@ -220,7 +221,7 @@ going_reread texts name port before mid now v w x r g next is noted wrote input 
 
 -- ends
 
-causes_none : (v w : Streams) (end : PanelEnd) → (end ≡ ends.Ended) ⊎ (end ≡ ends.Faulted)
+pub causes_none : (v w : Streams) (end : PanelEnd) → (end ≡ ends.Ended) ⊎ (end ≡ ends.Faulted)
     → w.input_faults ≡ v.input_faults → w.output_faults ≡ v.output_faults → HasCauses v w end
 causes_none v w end is input output = record {
   input_later = omega (arith, input);
@@ -240,7 +241,7 @@ causes_none v w end is input output = record {
     no_write e (inr f) = cc
 
 -- `shutdown` came, or the end
-going_ends : (texts : Texts) (name : List ℕ) (port : ℕ) (before now : Seen) (v w x : Streams) (o : Order)
+unfoldable pub going_ends : (texts : Texts) (name : List ℕ) (port : ℕ) (before now : Seen) (v w x : Streams) (o : Order)
     → IsGoing texts name port before now v w
     → IfSome w.left (λ bytes. IsNext bytes x.left o) → (o ≡ order.Shutdown) ⊎ (o ≡ order.End) → x.contents ≡ w.contents
     → x.input_faults ≡ w.input_faults → x.output_faults ≡ w.output_faults
@@ -255,7 +256,7 @@ going_ends texts name port before now v w x o g next last same input output = re
 }
 
 -- a fault was learnt
-pub going_fails : (texts : Texts) (name : List ℕ) (port : ℕ) (before now : Seen) (v w x : Streams)
+unfoldable pub going_fails : (texts : Texts) (name : List ℕ) (port : ℕ) (before now : Seen) (v w x : Streams)
     → IsGoing texts name port before now v w
     → x.contents ≡ w.contents → x.input_faults ≡ w.input_faults → x.output_faults ≡ w.output_faults
     → Attends texts name port before now v x ends.Faulted
@@ -269,8 +270,8 @@ going_fails texts name port before now v w x g same input output = record {
 }
 
 -- a fault was learnt behind a reconfiguration, whose line was written
-pub going_over : (texts : Texts) (name : List ℕ) (port : ℕ) (before mid now : Seen) (v w x : Streams) (r : Reread)
-    → IsGoing texts name port before mid v w
+unfoldable pub going_over : (texts : Texts) (name : List ℕ) (port : ℕ) (before mid now : Seen) (v w x : Streams)
+    (r : Reread) → IsGoing texts name port before mid v w
     → IsReread texts name mid r now → Appends w.contents x.contents (reread_text r) → x.input_faults ≡ w.input_faults
     → x.output_faults ≡ w.output_faults
     → Attends texts name port before now v x ends.Faulted
@@ -285,7 +286,7 @@ going_over texts name port before mid now v w x r g is wrote input output = reco
 }
 
 -- an order could not be read
-pub going_unread : (texts : Texts) (name : List ℕ) (port : ℕ) (before now : Seen) (v w x : Streams)
+unfoldable pub going_unread : (texts : Texts) (name : List ℕ) (port : ℕ) (before now : Seen) (v w x : Streams)
     → IsGoing texts name port before now v w
     → x.contents ≡ w.contents → Rose w.input_faults x.input_faults → w.input_faults ≤ x.input_faults
     → x.output_faults ≡ w.output_faults
@@ -306,7 +307,7 @@ going_unread texts name port before now v w x g same rose later output = record 
   };
 }
 
-causes_unwritten : (v w x : Streams) → w.input_faults ≡ v.input_faults → w.output_faults ≡ v.output_faults
+pub causes_unwritten : (v w x : Streams) → w.input_faults ≡ v.input_faults → w.output_faults ≡ v.output_faults
     → x.input_faults ≡ w.input_faults → Rose w.output_faults x.output_faults
     → w.output_faults ≤ x.output_faults → HasCauses v x ends.WriteFault
 causes_unwritten v w x input output same rose later = record {
@@ -319,8 +320,8 @@ causes_unwritten v w x input output same rose later = record {
 }
 
 -- the line of a reconfiguration could not be written
-pub going_unwritten : (texts : Texts) (name : List ℕ) (port : ℕ) (before mid now : Seen) (v w x : Streams) (r : Reread)
-    → IsGoing texts name port before mid v w
+unfoldable pub going_unwritten : (texts : Texts) (name : List ℕ) (port : ℕ) (before mid now : Seen) (v w x : Streams)
+    (r : Reread) → IsGoing texts name port before mid v w
     → IsReread texts name mid r now → Grew w.contents x.contents (λ part. IsProperPrefix part (reread_text r))
     → x.input_faults ≡ w.input_faults
     → Rose w.output_faults x.output_faults → w.output_faults ≤ x.output_faults
@@ -337,7 +338,7 @@ going_unwritten texts name port before mid now v w x r g is wrote input rose lat
 }
 
 -- the first line could not be written
-pub unwritten : (texts : Texts) (name : List ℕ) (port : ℕ) (before : Seen) (v w : Streams)
+unfoldable pub unwritten : (texts : Texts) (name : List ℕ) (port : ℕ) (before : Seen) (v w : Streams)
     → Grew v.contents w.contents (λ part. IsProperPrefix part (listening_text port))
     → w.input_faults ≡ v.input_faults → Rose v.output_faults w.output_faults → v.output_faults ≤ w.output_faults
     → Attends texts name port before before v w ends.WriteFault
@@ -351,19 +352,20 @@ unwritten texts name port before v w wrote input rose later = record {
   causes = causes_unwritten v v w refl refl input rose later;
 }
 
--- the control ends as it was ordered, or by a fault that it learnt
+-- the control ends as it was ordered, or by a fault that it learnt, behind these reconfigurations
 pub going_stops : (texts : Texts) (name : List ℕ) (port : ℕ) (before now : Seen) (v w x : Streams) (o : Order)
-    (end : PanelEnd) → IsGoing texts name port before now v w
+    (end : PanelEnd) (g : IsGoing texts name port before now v w)
     → IfSome w.left (λ bytes. IsNext bytes x.left o) → (o ≡ order.Shutdown) ⊎ (o ≡ order.End)
     → (end ≡ ends.Ended) ⊎ (end ≡ ends.Faulted)
     → x.contents ≡ w.contents → x.input_faults ≡ w.input_faults → x.output_faults ≡ w.output_faults
-    → Attends texts name port before now v x end
+    → (a : Attends texts name port before now v x end) × (a.rereads ≡ g.rereads)
+unfolding going_ends going_fails
 going_stops texts name port before now v w x o end g next last (inl e) same input output =
-    subst (λ (n : PanelEnd). Attends texts name port before now v x n) (sym e)
-    (going_ends texts name port before now v w x o g next last same input output)
+    subst (λ (n : PanelEnd). (a : Attends texts name port before now v x n) × (a.rereads ≡ g.rereads)) (sym e)
+    (going_ends texts name port before now v w x o g next last same input output, refl)
 going_stops texts name port before now v w x o end g next last (inr e) same input output =
-    subst (λ (n : PanelEnd). Attends texts name port before now v x n) (sym e)
-    (going_fails texts name port before now v w x g same input output)
+    subst (λ (n : PanelEnd). (a : Attends texts name port before now v x n) × (a.rereads ≡ g.rereads)) (sym e)
+    (going_fails texts name port before now v w x g same input output, refl)
 
 -- texts that stayed
 pub same_texts : (t u : Texts) (name : List ℕ) (v : Seen) (r : Reread) (w : Seen) → t ≡ u → IsReread t name v r w
@@ -385,7 +387,37 @@ timely_still {first} {last} {now} {old} {new} e is = subst (λ (m : Option (List
 
 -- what stands beside learned of an epoch with what the desk gave
 pub renews_made : (configs : ℕ → Option (Option Configuration)) (r : Reread) (epoch now : ℕ) (old new : Renewals)
-    (config : Configuration) → r ≡ reread.Made epoch → GivesConfig (configs epoch) (Some config)
+    (config : Option Configuration) → r ≡ reread.Made epoch → GivesConfig (configs epoch) config
     → AddsRenewal old new (record { epoch = epoch; config = config; now = now }) → Renews configs r now old new
 renews_made configs r epoch now old new config is gives adds =
-    subst (λ (k : Reread). Renews configs k now old new) (sym is) (Some config, gives, adds)
+    subst (λ (k : Reread). Renews configs k now old new) (sym is) (config, gives, adds)
+
+-- what a desk gave of a configuration
+pub gives_config : {A : Type 0} (told : Option (Option Configuration)) (gave : Option A) (value : A → Configuration)
+    → IfSome told (λ o. IfSome gave (λ c. o ≡ Some (value c))) → GivesConfig told (option_map value gave)
+gives_config None gave value is = tt
+gives_config (Some o) None value is = tt
+gives_config (Some o) (Some c) value is = is
+
+-- it learned of one reconfiguration more
+pub renewed_more : {K : Type 0} (views : Views K) (old mid new desk : K) (older : List Reread) (r : Reread)
+    (moment : ℕ) (before between then now : Renewals) → AreRenewed views old older mid before between → desk ≡ new
+    → then ≡ between → GrewAt (moment ∷ []) (views.told mid) (views.told new)
+    → Renews (views.configs desk) r moment then now → AreRenewed views old (r ∷ older) new before now
+renewed_more {K} views old mid new desk older r moment before between then now are same stays grew renews = (
+  mid,
+  between,
+  are,
+  record {
+    moment = moment;
+    grew = grew;
+    renews = subst (λ (k : K). Renews (views.configs k) r moment between now) same
+        (subst (λ (b : Renewals). Renews (views.configs desk) r moment b now) stays renews);
+  },
+)
+
+-- the same reconfigurations
+pub renewed_same : {K : Type 0} (views : Views K) (old new : K) (these those : List Reread) (before now : Renewals)
+    → those ≡ these → AreRenewed views old these new before now → AreRenewed views old those new before now
+renewed_same views old new these those before now same are =
+    subst (λ (rs : List Reread). AreRenewed views old rs new before now) (sym same) are

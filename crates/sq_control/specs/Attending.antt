@@ -56,6 +56,7 @@ pub record IsReread (texts : Texts) (name : List ℕ) (before : Seen) (result : 
   pub at : (e : ConfError) → result ≡ reread.At e
       → IsRefused texts before.files.opened now.files.opened name e
   pub missing : result ≡ reread.Missing → IsNotTold texts name
+  pub unopened : result ≡ reread.Missing → now.files.opened ≡ before.files.opened
   pub read : result ≡ reread.Read → Rose before.files.faults now.files.faults
   pub quiet : (result ≡ reread.Read → ⊥) → now.files.faults ≡ before.files.faults
   pub later : before.files.faults ≤ now.files.faults

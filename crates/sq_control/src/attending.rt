@@ -1,11 +1,12 @@
 //! A control that follows the orders of its input.
-ghost use Rattle.std.specs.Prelude.{◌≡◌, ◌⊎◌, List, true, ℕ};
+ghost use Rattle.std.specs.Prelude.{◌≡◌, ◌⊎◌, List, true, ℕ, option_map};
+ghost use Rattle.std.specs.Arc.{arc_value};
 ghost use Rattle.std.specs.declared.option.Option.{Option};
 ghost use Rattle.sq_outside.specs.World.{GivesMoment};
 ghost use Rattle.sq_calls.specs.Moments.{IsTimely};
 ghost use Rattle.sq_control.specs.Attending.{Attends};
 ghost use Rattle.sq_control.specs.ControlViews.{desk_of};
-ghost use Rattle.sq_control.specs.Renewing.{AddsRenewal, Renewals, Renews};
+ghost use Rattle.sq_control.specs.Renewing.{AddsRenewal, AreRenewed, Renewals, Renews};
 
 use crate::control::{Control, Reread};
 use crate::orders::{Order, next_order};
@@ -34,10 +35,10 @@ pub trait Beside {
         ensures renewed { renewed self.new ≡ renewed self.old }
         ensures callable { callable self.old → callable self.new };
 
-    /// Learns that an epoch has begun with this configuration.
-    fn renew(&mut self, epoch: EpochNo, config: &Arc<Config>, now: Moment)
+    /// Learns that an epoch has begun, with its configuration, where that could be had.
+    fn renew(&mut self, epoch: EpochNo, config: Option<Arc<Config>>, now: Moment)
         ensures renewed { AddsRenewal (renewed self.old) (renewed self.new)
-            (record { epoch = epoch; config = config.now.value; now = now }) }
+            (record { epoch = epoch; config = option_map (λ c. arc_value c) config; now = now }) }
         ensures moments { moments self.new ≡ moments self.old }
         ensures callable { callable self.old → callable self.new };
 
@@ -72,9 +73,7 @@ fn renew<K: TellsJournal, B: Beside>(desk: &K, beside: &mut B, reread: &Reread, 
     ensures callable { B.callable beside.old → B.callable beside.new }
 {
     if let Reread::Made(epoch) = reread {
-        if let Some(config) = desk.config(*epoch) {
-            beside.renew(*epoch, &config, now);
-        }
+        beside.renew(*epoch, desk.config(*epoch), now);
     }
 }
 
@@ -112,7 +111,8 @@ pub fn attend<R: Wait, K: ControlCalls, I: Console, B: Beside>(
     beside: &mut B,
 ) -> PanelEnd
     requires { B.callable beside.old }
-    ensures attends { Attends (I.F.texts files.old) conf.now port
+    // The orders were followed; and what stands beside learned of each reconfiguration that was made, in order.
+    ensures attends { (a : Attends (I.F.texts files.old) conf.now port
         (record {
           files = record { opened = I.F.opened files.old; faults = I.F.faults files.old };
           desk = record {
@@ -141,7 +141,9 @@ pub fn attend<R: Wait, K: ControlCalls, I: Console, B: Beside>(
           contents = I.O.contents out.new;
           output_faults = I.O.faults out.new;
         })
-        result }
+        result)
+        × AreRenewed (record { told = K.told; configs = K.configs }) (desk_of control.old) a.rereads
+        (desk_of control.new) (B.renewed beside.old) (B.renewed beside.new) }
     ensures texts { I.F.texts files.new ≡ I.F.texts files.old }
     // Each reconfiguration was noted at a moment that the clock gave meanwhile, or the latest so far.
     ensures timely { IsTimely (B.moments beside.old) (B.moments beside.new)

@@ -128,6 +128,7 @@ impl<K: ControlCalls> Control<K> {
         ensures at { (e : ConfError) → result ≡ Reread.At e
             → IsRefused (F.texts files.old) (F.opened files.old) (F.opened files.new) conf.now e }
         ensures missing { result ≡ Reread.Missing → IsNotTold (F.texts files.old) conf.now }
+        ensures unopened { result ≡ Reread.Missing → F.opened files.new ≡ F.opened files.old }
         ensures read { result ≡ Reread.Read → Rose (F.faults files.old) (F.faults files.new) }
         ensures refused { is_refusal result ≡ true
             → Rose (K.refused (desk_of self.old)) (K.refused (desk_of self.new)) }

@@ -35,10 +35,13 @@ impl<'a, R: Wait, D: DeskCalls, B: Ledgers, M: Monitor> Beside for Locks<'a, R, 
         self.monitor.now()
     }
 
-    // Want of memory is passed over: pools of either kind make the generation where a seat is chosen.
-    fn renew(&mut self, epoch: EpochNo, config: &Arc<Config>, now: Moment) {
-        let _ = sq_pools::renew(self.rt, self.alloc, self.bank, epoch, config, now);
-        let _ = sq_pools::renew_tags(self.rt, self.alloc, self.bank, epoch, config, now);
+    // Want of memory, and a configuration that could not be had, are passed over: pools of either kind make the generation
+    // where a seat is chosen.
+    fn renew(&mut self, epoch: EpochNo, config: Option<Arc<Config>>, now: Moment) {
+        if let Some(config) = config {
+            let _ = sq_pools::renew(self.rt, self.alloc, self.bank, epoch, &config, now);
+            let _ = sq_pools::renew_tags(self.rt, self.alloc, self.bank, epoch, &config, now);
+        }
     }
 
     fn must_end(&self) -> bool {

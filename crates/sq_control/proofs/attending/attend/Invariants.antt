@@ -1,6 +1,7 @@
 use Rattle.std.proofs.Common.{◌≡◌}
 use Rattle.sq_calls.specs.Moments.{IsTimely}
 use Rattle.sq_control.specs.ControlViews.{desk_of}
+use Rattle.sq_control.specs.Renewing.{AreRenewed}
 use Rattle.sq_control.proofs.AttendLaws.{IsGoing}
 use Rattle.sq_control.proofs.attending.attend.Given as goal
 
@@ -36,6 +37,9 @@ invariant-orders g l = record {
         contents = g.I.O.Sink.contents l.out;
         output_faults = g.I.O.Sink.faults l.out;
       });
+  renewed : AreRenewed
+      (record { told = g.K.TellsJournal.told; configs = g.K.TellsJournal.configs }) (desk_of l.fn.control)
+      going.rereads (desk_of l.control) (g.B.Beside.renewed l.fn.beside) (g.B.Beside.renewed l.beside);
   texts : g.I.F.Files.texts l.files ≡ g.I.F.Files.texts l.fn.files;
   timely : IsTimely (g.B.Beside.moments l.fn.beside) (g.B.Beside.moments l.beside)
       (g.K.TellsJournal.told (desk_of l.fn.control)) (g.K.TellsJournal.told (desk_of l.control));
