@@ -28,7 +28,7 @@ use Rattle.sq_commands.specs.Outputs.{IsSettled}
 use Rattle.sq_commands.specs.Serving.{Server}
 use Rattle.sq_commands.specs.declared.ends.Status.{Status}
 use Rattle.sq_commands.specs.declared.ends.Status.TheVariants as ends
-use Rattle.sq_server.specs.Service.{CameTo, EndsByLine, EndsOver, EndsWell, IsConf, IsServed, IsServerEnd, IsService, IsServiceEnd, IsTrueOrEmpty, IsTrueOver, IsUnservedEnd, RunsOrNot, beginning_of, ended_status, port_of, server_seen, stopped_line}
+use Rattle.sq_server.specs.Service.{CameTo, EndsByLine, EndsOver, EndsWell, IsConf, IsNoteEnd, IsServed, IsServerEnd, IsService, IsServiceEnd, IsTrueOrEmpty, IsTrueOver, IsUnservedEnd, RunsOrNot, beginning_of, ended_status, port_of, server_seen, stopped_line}
 use Rattle.sq_commands.proofs.EndLaws.{empty_line}
 use Rattle.sq_replay.specs.Openings.{Added}
 use Rattle.sq_replay.proofs.OpenedLaws.{Added_map, Added_none, Added_one, Added_then}
@@ -95,6 +95,15 @@ ended_server panel.Faulted true failed = tt
 ended_server panel.Faulted false true = tt
 ended_server panel.Faulted false false = tt
 
+-- where a server ends by none of the ends of a note that failed, none failed
+noted_quiet : (e : PanelEnd) (stopped failed : Bool) (jb jn : ℕ) → (stopped ≡ false → jn ≡ jb)
+    → (IsNoteEnd (ended_status e stopped failed) → ⊥) → jn ≡ jb
+noted_quiet e false failed jb jn quiet other = quiet refl
+noted_quiet panel.ReadFault true failed jb jn quiet other = absurd (other tt)
+noted_quiet panel.WriteFault true failed jb jn quiet other = absurd (other tt)
+noted_quiet panel.Ended true failed jb jn quiet other = absurd (other tt)
+noted_quiet panel.Faulted true failed jb jn quiet other = absurd (other tt)
+
 unserved_server : (s : Status) → IsUnservedEnd s → IsServerEnd s
 unserved_server ends.JournalFault u = tt
 unserved_server ends.WantOfMemory u = tt
@@ -114,15 +123,17 @@ unserved_not s t u e = subst IsUnservedEnd e u
 -- a server of which no desk was made
 unserved : (first : Beginning) (texts : Texts) (name : List ℕ) (port : ℕ) (f : FilesSeen) (v : Streams) (jb jn ln : ℕ)
     (history : Option History) (status : Status) → IsUnservedEnd status
-    → IsTrueOrEmpty first history → (status ≡ ends.JournalFault → Rose jb jn) → min jb count_limit ≤ jn
+    → IsTrueOrEmpty first history → (status ≡ ends.JournalFault → Rose jb jn)
+    → ((IsNoteEnd status → ⊥) → jn ≡ jb) → min jb count_limit ≤ jn
     → IsServed first texts name port (server_seen f v jb 0) (server_seen f v jn ln) history status
-unserved first texts name port f v jb jn ln history status u is_true journal later = record {
+unserved first texts name port f v jb jn ln history status u is_true journal quiet later = record {
   ok = λ e. absurd (unserved_not status ends.Ok u e);
   is_true = is_true;
   noted = λ e. absurd (unserved_not status ends.Ok u e);
   read = λ e. absurd (unserved_not status ends.ReadFault u e);
   write = λ e. absurd (unserved_not status ends.WriteFault u e);
   journal = journal;
+  quiet = quiet;
   net = λ e. absurd (unserved_not status ends.Net u e);
   end = unserved_server status u;
   ran = inl (refl, refl, u);
@@ -148,10 +159,10 @@ pub served : (first : Beginning) (texts : Texts) (name : List ℕ) (port : ℕ) 
     (status : Status) → status ≡ ended_status end stopped failed
     → Runs texts name port f g v w (record { end = end; made = made })
     → ForSome history (λ h. made + 1 ≡ current h) → IfSome history (IsLegal first)
-    → (status ≡ ends.JournalFault → Rose jb jn) → (status ≡ ends.Net → 0 < ln) → jb ≤ jn
+    → (stopped ≡ true → Rose jb jn) → (stopped ≡ false → jn ≡ jb) → (failed ≡ true → 0 < ln) → jb ≤ jn
     → IsServed first texts name port (server_seen f v jb 0) (server_seen g w jn ln) history status
-served first texts name port f g v w jb jn ln history end stopped failed made status is runs makes legal journal net
-    later =
+served first texts name port f g v w jb jn ln history end stopped failed made status is runs makes legal noted quiet
+    heard later =
     let causes = runs.4.causes in
     record {
       ok = λ e. (
@@ -164,10 +175,23 @@ served first texts name port f g v w jb jn ln history end stopped failed made st
       noted = λ e. journal_true first history legal;
       read = λ e. causes.read (ended_read end stopped failed (sym is ∙ e));
       write = λ e. causes.write (ended_write end stopped failed (sym is ∙ e));
-      journal = journal;
-      net = net;
+      journal = λ e. noted (stopped_is end stopped failed (sym is ∙ e));
+      quiet = λ other. noted_quiet end stopped failed jb jn quiet (λ n. other (subst IsNoteEnd (sym is) n));
+      net = λ e. heard (failed_is end stopped failed (sym is ∙ e));
       end = subst IsServerEnd (sym is) (ended_server end stopped failed);
-      ran = inr (record { end = end; stopped = stopped; failed = failed; made = made; runs = runs; ended = is });
+      ran = inr (record {
+        end = end;
+        made = made;
+        runs = runs;
+        so = record {
+          stopped = stopped;
+          failed = failed;
+          ended = is;
+          noted = noted;
+          quiet = quiet;
+          heard = λ e. let up : 0 < ln = heard e in omega (arith, up);
+        };
+      });
       files_later = reread_later texts name (record { files = f; desk = runs.0 }) runs.4.rereads
           (record { files = g; desk = runs.1 }) runs.4.are;
       input_later = causes.input_later;
@@ -179,15 +203,17 @@ served first texts name port f g v w jb jn ln history end stopped failed made st
 pub unserved_moved : (first : Beginning) (texts : Texts) (name : List ℕ) (port : ℕ) (f g : FilesSeen) (v w : Streams)
     (jb jn ln : ℕ) (history before : Option History) (status : Status) → g ≡ f → w ≡ v
     → IsUnservedEnd status → history ≡ before → IfSome before (λ h. h ≡ []) → (status ≡ ends.JournalFault → Rose jb jn)
+    → ((IsNoteEnd status → ⊥) → jn ≡ jb)
     → min jb count_limit ≤ jn → IsServed first texts name port (server_seen f v jb 0) (server_seen g w jn ln) history
     status
-unserved_moved first texts name port f g v w jb jn ln history before status e k u same empty journal later =
+unserved_moved first texts name port f g v w jb jn ln history before status e k u same empty journal quiet later =
     subst (λ (h : FilesSeen). IsServed first texts name port (server_seen f v jb 0) (server_seen h w jn ln) history
     status) (sym e)
     (subst (λ (x : Streams). IsServed first texts name port (server_seen f v jb 0) (server_seen f x jn ln) history
     status) (sym k)
     (unserved first texts name port f v jb jn ln history status u
-    (true_unran first history (subst (λ (o : Option History). IfSome o (λ h. h ≡ [])) (sym same) empty)) journal later))
+    (true_unran first history (subst (λ (o : Option History). IfSome o (λ h. h ≡ [])) (sym same) empty)) journal quiet
+    later))
 
 -- a server whose configuration could not be had
 
@@ -263,11 +289,13 @@ rereads_of texts name before now (r ∷ older) (mid, are, is) =
     (λ first next f n. All-append (λ (o : Opening). o.name ≡ name) next first n f)
 
 -- and so is what a server opened once it had read its configuration
-ran_of : (texts : Texts) (name : List ℕ) (port : ℕ) (begun g : FilesSeen) (v w : Streams) (status : Status)
-    → RunsOrNot texts name port begun g v w status → Added begun.opened g.opened (AreOf name)
-ran_of texts name port begun g v w status (inl (files, same, u)) = Added_none begun.opened g.opened (AreOf name)
+ran_of : (texts : Texts) (name : List ℕ) (port : ℕ) (begun g : FilesSeen) (v w : Streams) (jb jn nb ln : ℕ)
+    (status : Status) → RunsOrNot texts name port (server_seen begun v jb nb) (server_seen g w jn ln) status
+    → Added begun.opened g.opened (AreOf name)
+ran_of texts name port begun g v w jb jn nb ln status (inl (files, same, u)) =
+    Added_none begun.opened g.opened (AreOf name)
     (ap (λ (f : FilesSeen). f.opened) files) (All-nil (λ (o : Opening). o.name ≡ name))
-ran_of texts name port begun g v w status (inr run) = by run.runs
+ran_of texts name port begun g v w jb jn nb ln status (inr run) = by run.runs
   where
     by : Runs texts name port begun g v w (record { end = run.end; made = run.made })
         → Added begun.opened g.opened (AreOf name)
@@ -315,10 +343,11 @@ no_line : (a : Option (List ℕ)) (n : ℕ) → Grew a a (IsWritten n n [])
 no_line a n = ([], Appends-nil a, record { front = IsPrefix_nil []; all = inl (refl, refl) })
 
 -- no panel ran
-unrun : (s : Server) (texts : Texts) (f g : FilesSeen) (v w : Streams) (status : Status)
+unrun : (s : Server) (texts : Texts) (f g : FilesSeen) (v w : Streams) (jb jn nb nn : ℕ) (status : Status)
     → Added f.opened g.opened (λ more. IsOnce s.conf more × EndsOver (conf_stage s.conf (first_text more)) status)
-    → w ≡ v → (status ≡ ends.WriteFault → ⊥) → EndsByLine [] s texts f g v w status
-unrun s texts f g v w status opened same unwritten = record {
+    → w ≡ v → (status ≡ ends.WriteFault → ⊥)
+    → EndsByLine [] s texts (server_seen f v jb nb) (server_seen g w jn nn) status
+unrun s texts f g v w jb jn nb nn status opened same unwritten = record {
   told = w;
   came = inl (record { opened = opened; same = same; unwritten = unwritten });
   writes = no_line w.contents w.output_faults;
@@ -333,7 +362,7 @@ pub conf_failed : (s : Server) (texts : Texts) (f g : FilesSeen) (v : Streams) (
     → CameTo [] s texts (server_seen f v jb nb) (server_seen g v jb nb) history status
 conf_failed s texts f g v jb nb history status o comes read empty later opened = record {
   ok = λ e. absurd (no_end texts s.conf status ends.Ok o e);
-  bytes = λ e. unrun s texts f g v v status
+  bytes = λ e. unrun s texts f g v v jb jb nb nb status
       (Added_map f.opened g.opened
       (λ more. IsOnce s.conf more × Comes {A = Configuration} (Err status) (conf_stage s.conf (first_text more)))
       (λ more. IsOnce s.conf more × EndsOver (conf_stage s.conf (first_text more)) status)
@@ -343,6 +372,7 @@ conf_failed s texts f g v jb nb history status o comes read empty later opened =
   read = λ e. inl (read e);
   write = λ e. absurd (no_end texts s.conf status ends.WriteFault o e);
   journal = λ e. absurd (no_end texts s.conf status ends.JournalFault o e);
+  quiet = λ other. refl;
   net = λ e. absurd (no_end texts s.conf status ends.Net o e);
   conf = over_all texts s.conf status o texts comes;
   missing = open_missing texts s.conf status o;
@@ -393,12 +423,13 @@ pub net_failed : (s : Server) (texts : Texts) (f g : FilesSeen) (v : Streams) (j
     → CameTo [] s texts (server_seen f v jb nb) (server_seen g v jb nn) history ends.Net
 net_failed s texts f g v jb nb nn history config comes rose net empty later opened = record {
   ok = λ e. absurd (cc);
-  bytes = λ e. unrun s texts f g v v ends.Net (opened_over s.conf f.opened g.opened config ends.Net tt opened) refl
-      (λ w. cc);
+  bytes = λ e. unrun s texts f g v v jb jb nb nn ends.Net
+      (opened_over s.conf f.opened g.opened config ends.Net tt opened) refl (λ w. cc);
   is_true = empty_over s texts f.opened g.opened history empty;
   read = λ e. absurd (cc);
   write = λ e. absurd (cc);
   journal = λ e. absurd (cc);
+  quiet = λ other. refl;
   net = λ e. rose;
   conf = over_ok texts s.conf config ends.Net tt comes;
   missing = tt;
@@ -413,6 +444,10 @@ net_failed s texts f g v jb nb nn history config comes rose net empty later open
 settled_end : (s r : Status) → IsServerEnd s → IsSettled s r → IsServerEnd r
 settled_end s r e (inl same) = subst IsServerEnd (sym same) e
 settled_end s r e (inr write) = subst IsServerEnd (sym write) tt
+
+settled_note : (s r : Status) → IsSettled s r → IsNoteEnd s → IsNoteEnd r
+settled_note s r (inl same) n = subst IsNoteEnd (sym same) n
+settled_note s r (inr write) n = subst IsNoteEnd (sym write) tt
 
 settled_is : (s r t : Status) → IsSettled s r → r ≡ t → (ends.WriteFault ≡ t → ⊥) → s ≡ t
 settled_is s r t (inl same) e other = sym same ∙ e
@@ -432,14 +467,16 @@ is_ok (ends.Missing n) = inr (λ e. cc)
 is_ok ends.WantOfMemory = inr (λ e. cc)
 
 -- what a server wrote that did not end well: the line `stopped` is told of in `told`
-run_told : (s : Server) (texts : Texts) (f begun g : FilesSeen) (v w x : Streams) (port : ℕ) (config : Configuration)
-    (status r : Status) → port ≡ port_of s config
+run_told : (s : Server) (texts : Texts) (f begun g : FilesSeen) (v w x : Streams) (jb jn nb nn ln port : ℕ)
+    (config : Configuration) (status r : Status) → port ≡ port_of s config
     → IsConf texts s.conf f.opened begun.opened config → IsServerEnd status
-    → RunsOrNot texts s.conf port begun g v w status → IsSettled status r
+    → RunsOrNot texts s.conf port (server_seen begun v jb 0) (server_seen g w jn ln) status
+    → (status ≡ ends.Ok → jn ≡ jb) → (Rose 0 ln → Rose nb nn) → IsSettled status r
     → ((status ≡ ends.Ok → ⊥) → (r ≡ status) × (x ≡ w))
     → (status ≡ ends.Ok → r ≡ ends.WriteFault → Grew w.contents x.contents (λ part. IsProperPrefix part stopped_line))
-    → (r ≡ ends.Ok → ⊥) → EndsByLine [] s texts f g v x r
-run_told s texts f begun g v w x port config status r is_port conf end ran settled kept short unwell =
+    → (r ≡ ends.Ok → ⊥) → EndsByLine [] s texts (server_seen f v jb nb) (server_seen g x jn nn) r
+run_told s texts f begun g v w x jb jn nb nn ln port config status r is_port conf end ran quiet heard settled kept
+    short unwell =
     by (is_ok status) ran
   where
     failed : status ≡ ends.Ok → r ≡ ends.WriteFault
@@ -449,12 +486,13 @@ run_told s texts f begun g v w x port config status r is_port conf end ran settl
         write (inl same) = absurd (unwell (same ∙ is))
         write (inr w) = w
 
-    by : (status ≡ ends.Ok) ⊎ (status ≡ ends.Ok → ⊥) → RunsOrNot texts s.conf port begun g v w status
-        → EndsByLine [] s texts f g v x r
+    by : (status ≡ ends.Ok) ⊎ (status ≡ ends.Ok → ⊥)
+        → RunsOrNot texts s.conf port (server_seen begun v jb 0) (server_seen g w jn ln) status
+        → EndsByLine [] s texts (server_seen f v jb nb) (server_seen g x jn nn) r
     by (inl is) (inl (files, same, u)) = absurd (unserved_not status ends.Ok u is)
     by (inr other) (inl (files, same, u)) =
         let both = kept other in
-        unrun s texts f g v x r
+        unrun s texts f g v x jb jn nb nn r
         (opened_over s.conf f.opened g.opened config r (subst IsServerEnd (sym both.0) end)
         (subst (λ (h : FilesSeen). Added f.opened h.opened
         (λ more. IsOnce s.conf more × (conf_stage s.conf (first_text more) ≡ Ok config))) (sym files) conf.opened))
@@ -470,7 +508,12 @@ run_told s texts f begun g v w x port config status r is_port conf end ran settl
         made = run.made;
         runs = subst (λ (p : ℕ). Runs texts s.conf p begun g v w
             (record { end = run.end; made = run.made })) is_port run.runs;
-        after = inr (ended_ok run.end run.stopped run.failed (sym run.ended ∙ is), failed is, short is (failed is));
+        after = inr (
+          ended_ok run.end run.so.stopped run.so.failed (sym run.so.ended ∙ is),
+          quiet is,
+          failed is,
+          short is (failed is),
+        );
       });
       writes = no_line x.contents x.output_faults;
     }
@@ -485,7 +528,17 @@ run_told s texts f begun g v w x port config status r is_port conf end ran settl
         made = run.made;
         runs = subst (λ (p : ℕ). Runs texts s.conf p begun g v w
             (record { end = run.end; made = run.made })) is_port run.runs;
-        after = inl ((kept other).1, run.stopped, run.failed, (kept other).0 ∙ run.ended);
+        after = inl (
+          (kept other).1,
+          record {
+            stopped = run.so.stopped;
+            failed = run.so.failed;
+            ended = (kept other).0 ∙ run.so.ended;
+            noted = run.so.noted;
+            quiet = run.so.quiet;
+            heard = λ e. heard (run.so.heard e);
+          },
+        );
       });
       writes = no_line x.contents x.output_faults;
     }
@@ -520,14 +573,16 @@ served_service s texts f begun g v w x jb jn nb nm nn ln port history config sta
             makes = ran.2;
             is_true = served.noted both.0;
           };
-      bytes = run_told s texts f begun g v w x port config status r is_port conf served.end served.ran settled kept
-          short;
+      bytes = run_told s texts f begun g v w x jb jn nb nn ln port config status r is_port conf served.end served.ran
+          (λ e. served.quiet (λ n. subst IsNoteEnd e n))
+          (λ up. subst (λ (n : ℕ). Rose n nn) same (back.rose (omega (arith, up)))) settled kept short;
       is_true = true_over s texts f.opened begun.opened g.opened config history conf
-          (ran_of texts s.conf port begun g v w status served.ran) served.is_true;
+          (ran_of texts s.conf port begun g v w jb jn 0 ln status served.ran) served.is_true;
       read = λ e. inr (subst (λ (n : ℕ). Rose v.input_faults n) (sym input)
           (served.read (settled_is status r ends.ReadFault settled e (λ n. cc))));
       write = λ e. wrote (unwritten e);
       journal = λ e. served.journal (settled_is status r ends.JournalFault settled e (λ n. cc));
+      quiet = λ other. served.quiet (λ n. other (settled_note status r settled n));
       net = λ e. subst (λ (n : ℕ). Rose n nn) same
           (back.rose (served.net (settled_is status r ends.Net settled e (λ n. cc))));
       conf = over_ok texts s.conf config r (settled_end status r served.end settled) conf.told;
@@ -560,11 +615,13 @@ then_line a b c before mid now line later (first, wrote, w) (part, grew, l) = (
     by (inl (none, same)) (inr up) = inr (subst (λ (n : ℕ). Rose n now) same up)
     by (inr up) l = inr (omega (arith, up, later))
 
-told_line : (line : List ℕ) (s : Server) (texts : Texts) (f g : FilesSeen) (v w x : Streams) (status : Status)
+told_line : (line : List ℕ) (s : Server) (texts : Texts) (f g : FilesSeen) (v w x : Streams) (jb jn nb nn : ℕ)
+    (status : Status)
     → w.output_faults ≤ x.output_faults
-    → Grew w.contents x.contents (IsWritten w.output_faults x.output_faults line) → EndsByLine [] s texts f g v w status
-    → EndsByLine line s texts f g v x status
-told_line line s texts f g v w x status later grew e = record {
+    → Grew w.contents x.contents (IsWritten w.output_faults x.output_faults line)
+    → EndsByLine [] s texts (server_seen f v jb nb) (server_seen g w jn nn) status
+    → EndsByLine line s texts (server_seen f v jb nb) (server_seen g x jn nn) status
+told_line line s texts f g v w x jb jn nb nn status later grew e = record {
   told = e.told;
   came = e.came;
   writes = then_line e.told.contents w.contents x.contents e.told.output_faults w.output_faults x.output_faults line
@@ -582,11 +639,12 @@ finished s texts f g v w x jb jn nb nn history status r is h ok grew input later
     subst (λ (t : Status). IsService s texts (server_seen f v jb nb) (server_seen g x jn nn) history t) (sym is)
     (record {
       ok = λ e. subst (λ (y : Streams). EndsWell s texts f g v y history) (sym (ok e)) (h.ok e);
-      bytes = λ e. told_line (last_line status) s texts f g v w x status later grew (h.bytes e);
+      bytes = λ e. told_line (last_line status) s texts f g v w x jb jn nb nn status later grew (h.bytes e);
       is_true = h.is_true;
       read = λ e. reads (h.read e);
       write = λ e. let up : Rose v.output_faults w.output_faults = h.write e in omega (arith, up, later);
       journal = h.journal;
+      quiet = h.quiet;
       net = h.net;
       conf = h.conf;
       missing = h.missing;
@@ -626,6 +684,16 @@ served_texts first t u name port f g v w jb jn ln history status e h =
 pub begun_fault : (fault : DeskFault) (before now : ℕ) → fault ≡ desk.JournalFault → IsUnbegun fault before now
     → Rose before now
 begun_fault fault before now is unbegun = subst (λ f. IsUnbegun f before now) is unbegun
+
+-- where the end is none of a note that failed, none did
+pub unbegun_quiet : (fault : DeskFault) (before now : ℕ) (status : Status)
+    → (fault ≡ desk.JournalFault → status ≡ ends.JournalFault) → IsUnbegun fault before now
+    → (IsNoteEnd status → ⊥) → now ≡ before
+unbegun_quiet desk.JournalFault before now status noted up other =
+    absurd (other (subst IsNoteEnd (sym (noted refl)) tt))
+unbegun_quiet desk.WantOfMemory before now status noted same other = same
+unbegun_quiet desk.Stopped before now status noted never other = absurd never
+unbegun_quiet (desk.Engine r) before now status noted never other = absurd never
 
 pub unbegun_later : (fault : DeskFault) (before now : ℕ) → IsUnbegun fault before now → min before count_limit ≤ now
 unbegun_later desk.JournalFault before now up = omega (arith, up)

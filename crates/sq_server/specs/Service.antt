@@ -35,6 +35,26 @@ ended_status e false true = ends.Net
 ended_status panel.Ended false false = ends.Ok
 ended_status panel.Faulted false false = ends.WantOfMemory
 
+-- How a server ended whose panel ended so, by the counts of its journal and of its listener: a note
+-- of the journal failed only where its count rose, and none failed only where that stayed; the
+-- listener failed only where its count rose.
+pub record EndsSo (end : PanelEnd) (journal_before journal_now net_before net_now : ℕ)
+    (status : Status) : Type 0 where
+  pub stopped : Bool
+  pub failed : Bool
+  pub ended : status ≡ ended_status end stopped failed
+  pub noted : stopped ≡ true → Rose journal_before journal_now
+  pub quiet : stopped ≡ false → journal_now ≡ journal_before
+  pub heard : failed ≡ true → Rose net_before net_now
+
+-- a server of whose journal a note failed ends by these alone: by that fault, or by one with a
+-- lesser code
+abbrev pub IsNoteEnd : Status → Type 0
+IsNoteEnd ends.ReadFault = Unit {0}
+IsNoteEnd ends.WriteFault = Unit {0}
+IsNoteEnd ends.JournalFault = Unit {0}
+IsNoteEnd status = ⊥
+
 -- the port at which a server of this configuration listens: the option's, or else the
 -- configuration's
 abbrev pub port_of : Server → Configuration → ℕ
@@ -92,25 +112,6 @@ pub record IsTrueFrom (first : Beginning) (h : History) : Type 0 where
 abbrev pub IsTrueOrEmpty : Beginning → Option History → Type 0
 IsTrueOrEmpty first history = IfSome history (λ h. (h ≡ []) ⊎ IsTrueFrom first h)
 
--- A panel ran: how it ended, by which the server ended so, and by whether a note of its journal
--- failed, and whether its listener did.
-pub record HasRun (texts : Texts) (name : List ℕ) (port : ℕ) (files_before files_now : FilesSeen)
-    (streams_before streams_now : Streams) (status : Status) : Type 0 where
-  pub end : PanelEnd
-  pub stopped : Bool
-  pub failed : Bool
-  pub made : ℕ
-  pub runs : Runs texts name port files_before files_now streams_before streams_now
-      (record { end = end; made = made })
-  pub ended : status ≡ ended_status end stopped failed
-
--- the desk was not made, and files and streams are as they were; or a panel ran
-abbrev pub RunsOrNot : Texts → List ℕ → ℕ → FilesSeen → FilesSeen → Streams → Streams → Status
-    → Type 0
-RunsOrNot texts name port files_before files_now streams_before streams_now status =
-    ((files_now ≡ files_before) × (streams_now ≡ streams_before) × IsUnservedEnd status)
-    ⊎ HasRun texts name port files_before files_now streams_before streams_now status
-
 -- what a server's world tells: the files, the streams, and the counts of faults of its journal and
 -- of its net
 pub record ServerSeen : Type 0 where
@@ -122,6 +123,22 @@ pub record ServerSeen : Type 0 where
 abbrev pub server_seen : FilesSeen → Streams → ℕ → ℕ → ServerSeen
 server_seen files streams journal net =
     record { files = files; streams = streams; journal = journal; net = net }
+
+-- A panel ran: how it ended, and how by that and by the counts of journal and listener the server
+-- ended.
+pub record HasRun (texts : Texts) (name : List ℕ) (port : ℕ) (before now : ServerSeen)
+    (status : Status) : Type 0 where
+  pub end : PanelEnd
+  pub made : ℕ
+  pub runs : Runs texts name port before.files now.files before.streams now.streams
+      (record { end = end; made = made })
+  pub so : EndsSo end before.journal now.journal before.net now.net status
+
+-- the desk was not made, and files and streams are as they were; or a panel ran
+abbrev pub RunsOrNot : Texts → List ℕ → ℕ → ServerSeen → ServerSeen → Status → Type 0
+RunsOrNot texts name port before now status =
+    ((now.files ≡ before.files) × (now.streams ≡ before.streams) × IsUnservedEnd status)
+    ⊎ HasRun texts name port before now status
 
 -- what came of a server at a port, by what its world told before and after; the net's counts are
 -- those of its listener
@@ -138,9 +155,10 @@ pub record IsServed (first : Beginning) (texts : Texts) (name : List ℕ) (port 
   pub write : status ≡ ends.WriteFault
       → Rose before.streams.output_faults now.streams.output_faults
   pub journal : status ≡ ends.JournalFault → Rose before.journal now.journal
+  pub quiet : (IsNoteEnd status → ⊥) → now.journal ≡ before.journal
   pub net : status ≡ ends.Net → 0 < now.net
   pub end : IsServerEnd status
-  pub ran : RunsOrNot texts name port before.files now.files before.streams now.streams status
+  pub ran : RunsOrNot texts name port before now status
   pub files_later : before.files.faults ≤ now.files.faults
   pub input_later : before.streams.input_faults ≤ now.streams.input_faults
   pub output_later : before.streams.output_faults ≤ now.streams.output_faults
@@ -179,36 +197,35 @@ pub record IsUnrun (s : Server) (files_before files_now : FilesSeen)
 
 -- a server whose panel ended so ended by that, and wrote nothing behind what the panel wrote; or it
 -- would have ended well, but of the line `stopped` it could write only a part
-abbrev pub EndsAfter : PanelEnd → Streams → Streams → Status → Type 0
-EndsAfter end ran now status =
-    ((now ≡ ran) × (stopped : Bool) × (failed : Bool) × (status ≡ ended_status end stopped failed))
-    ⊎ ((end ≡ panel.Ended) × (status ≡ ends.WriteFault)
-    × Grew ran.contents now.contents (λ part. IsProperPrefix part stopped_line))
+abbrev pub EndsAfter : PanelEnd → Streams → ServerSeen → ServerSeen → Status → Type 0
+EndsAfter end ran before now status =
+    ((now.streams ≡ ran) × EndsSo end before.journal now.journal before.net now.net status)
+    ⊎ ((end ≡ panel.Ended) × (now.journal ≡ before.journal) × (status ≡ ends.WriteFault)
+    × Grew ran.contents now.streams.contents (λ part. IsProperPrefix part stopped_line))
 
 -- The panel of a server ran: the configuration of its file; at which port it listened; what its
 -- panel did, and wrote; and how the server ended by that.
-pub record IsRun (s : Server) (texts : Texts) (files_before files_now : FilesSeen)
-    (streams_before streams_now : Streams) (status : Status) : Type 0 where
+pub record IsRun (s : Server) (texts : Texts) (before now : ServerSeen)
+    (status : Status) : Type 0 where
   pub config : Configuration
   pub begun : FilesSeen
-  pub conf : IsConf texts s.conf files_before.opened begun.opened config
+  pub conf : IsConf texts s.conf before.files.opened begun.opened config
   pub ran : Streams
   pub end : PanelEnd
   pub made : ℕ
-  pub runs : Runs texts s.conf (port_of s config) begun files_now streams_before ran
+  pub runs : Runs texts s.conf (port_of s config) begun now.files before.streams ran
       (record { end = end; made = made })
-  pub after : EndsAfter end ran streams_now status
+  pub after : EndsAfter end ran before now status
 
 -- What a server wrote: nothing, where its panel did not run, or what that wrote; and then this
 -- line, or a part of it where a write failed.
-pub record EndsByLine (line : List ℕ) (s : Server) (texts : Texts)
-    (files_before files_now : FilesSeen) (streams_before streams_now : Streams)
+pub record EndsByLine (line : List ℕ) (s : Server) (texts : Texts) (before now : ServerSeen)
     (status : Status) : Type 0 where
   pub told : Streams
-  pub came : IsUnrun s files_before files_now streams_before told status
-      ⊎ IsRun s texts files_before files_now streams_before told status
-  pub writes : Grew told.contents streams_now.contents
-      (IsWritten told.output_faults streams_now.output_faults line)
+  pub came : IsUnrun s before.files now.files before.streams told status
+      ⊎ IsRun s texts before (server_seen now.files told now.journal now.net) status
+  pub writes : Grew told.contents now.streams.contents
+      (IsWritten told.output_faults now.streams.output_faults line)
 
 -- The history is true from the configuration of the file and the stated offset on. That file was
 -- opened first, and each later opening was of it, too.
@@ -227,7 +244,7 @@ pub record CameTo (line : List ℕ) (s : Server) (texts : Texts) (before now : S
   pub ok : status ≡ ends.Ok
       → EndsWell s texts before.files now.files before.streams now.streams history
   pub bytes : (status ≡ ends.Ok → ⊥)
-      → EndsByLine line s texts before.files now.files before.streams now.streams status
+      → EndsByLine line s texts before now status
   pub is_true : IfSome history (λ h. (h ≡ [])
       ⊎ IsTrueOver s texts before.files.opened now.files.opened h)
   pub read : status ≡ ends.ReadFault → Rose before.files.faults now.files.faults
@@ -235,6 +252,7 @@ pub record CameTo (line : List ℕ) (s : Server) (texts : Texts) (before now : S
   pub write : status ≡ ends.WriteFault
       → Rose before.streams.output_faults now.streams.output_faults
   pub journal : status ≡ ends.JournalFault → Rose before.journal now.journal
+  pub quiet : (IsNoteEnd status → ⊥) → now.journal ≡ before.journal
   pub net : status ≡ ends.Net → Rose before.net now.net
   pub conf : IfSome texts (λ disk. EndsOver (conf_stage s.conf (disk s.conf)) status)
   pub missing : IfMissing status (λ name. (name ≡ s.conf) × IsNotTold texts name)

@@ -3,6 +3,7 @@ ghost use Rattle.std.specs.Prelude.{◌≡◌, [], IfOk, IfErr, IfSome, Some, mi
 ghost use Rattle.std.specs.Option.{option_map};
 ghost use Rattle.sq_desk.specs.Calling.{IsUnbegun};
 ghost use Rattle.sq_outside.specs.Causes.{count_limit};
+ghost use Rattle.sq_desk.specs.Calling.{HasBegun as HasBegunDesk};
 ghost use Rattle.sq_pools.specs.Basins.{HasBegun, HasBegunTags};
 ghost use Rattle.sq_pools.specs.Granting.{granted_together};
 ghost use Rattle.sq_server.specs.Beginning.{HasCountedNone};
@@ -88,6 +89,9 @@ pub(crate) fn begin<J: Journal, B: Before + DeskStart>(
     requires first { B.first ≡ record { config = start.setup; offset = start.offset } }
     requires before { B.faults ≡ J.faults journal }
     requires empty { IfSome (J.history journal) (λ h. h ≡ []) }
+    // The desk begins at this moment, over the journal.
+    ensures desk { IfOk result
+        (λ m. HasBegunDesk start.setup start.offset now (J.history journal) m.desk) }
     // The pools of both kinds begin at this moment, with the generation of the first epoch.
     ensures pools { IfOk result
         (λ m. HasBegun m.pools 1 start.setup now × HasBegunTags m.tags 1 start.setup now) }

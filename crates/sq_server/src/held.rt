@@ -46,6 +46,7 @@ fn ended_status(end: PanelEnd, stopped: bool, failed: bool) -> Status
 fn unserved_status(fault: DeskFault) -> Status
     ensures end { IsUnservedEnd result }
     ensures journal { result ≡ ends.JournalFault → fault ≡ DeskFault.JournalFault }
+    ensures noted { fault ≡ DeskFault.JournalFault → result ≡ ends.JournalFault }
 {
     match fault {
         DeskFault::JournalFault => Status::JournalFault,

@@ -1,6 +1,6 @@
-use Rattle.std.proofs.Common.{sym, ap, ◌∙◌}
+use Rattle.std.proofs.Common.{ap}
 use Rattle.sq_control.specs.Attending.{FilesSeen, Streams}
-use Rattle.sq_server.proofs.ServiceLaws.{begun_fault, failed_is, served, stopped_is, unbegun_later, unserved_moved}
+use Rattle.sq_server.proofs.ServiceLaws.{begun_fault, served, unbegun_later, unbegun_quiet, unserved_moved}
 use Rattle.sq_server.proofs.held.run_panel.Goals as goal
 
 pub returns-in-Ok-clause-served : goal.returns-in-Ok-clause-served
@@ -9,9 +9,7 @@ returns-in-Ok-clause-served g c =
     let is = c.ended_status.ensures in
     let ran = c.in-Ok.ensures.panel in
     served _ _ _ _ _ _ _ _ _ _ _ _ s.end s.stopped s.failed ran.0 _ is ran.1.4 ran.2 c.in-Ok.ensures.legal
-    (λ e. c.in-Ok.ensures.stopped (stopped_is s.end s.stopped s.failed (sym is ∙ e)))
-    (λ e. c.in-Ok.ensures.failed (failed_is s.end s.stopped s.failed (sym is ∙ e)))
-    c.in-Ok.ensures.later
+    c.in-Ok.ensures.stopped c.in-Ok.ensures.quiet c.in-Ok.ensures.failed c.in-Ok.ensures.later
 
 pub returns-in-Err-clause-served : goal.returns-in-Err-clause-served
 returns-in-Err-clause-served g c =
@@ -28,4 +26,5 @@ returns-in-Err-clause-served g c =
     }) same)
     c.unserved_status.ensures.end c.in-Err.ensures.unwritten c.requires.empty
     (λ e. begun_fault c.in-Err.unserved.fault _ _ (c.unserved_status.ensures.journal e) c.in-Err.ensures.unserved)
+    (unbegun_quiet c.in-Err.unserved.fault _ _ _ c.unserved_status.ensures.noted c.in-Err.ensures.unserved)
     (unbegun_later c.in-Err.unserved.fault _ _ c.in-Err.ensures.unserved)
