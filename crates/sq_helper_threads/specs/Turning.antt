@@ -4,7 +4,7 @@ use Rattle.std.specs.Arc.{arc_value}
 use Rattle.std.specs.declared.option.Option.{Option}
 use Rattle.sq_base.specs.Replies.{question_text}
 use Rattle.sq_outside.specs.Causes.{Rose}
-use Rattle.sq_outside.specs.Dials.{IsEmpty, IsOpen}
+use Rattle.sq_outside.specs.Dials.{IsClosed, IsEmpty, IsOpen}
 use Rattle.sq_outside.specs.World.{StartsMore}
 use Rattle.sq_keeper.specs.declared.pipes.Pipe.{Pipe}
 use Rattle.sq_keeper.specs.Pipes.{Asks, Fails, HalfTells, Shuts, Changes, open_ones, pipe_place}
@@ -115,25 +115,54 @@ NotesStart epoch class proc step = AddsOne step.before.first step.moment
     (IsStarted step.before.first step.before.told epoch class) (answer.Proc proc)
     step.before.told step.now.told
 
--- The process was noted as started, and both its halves were taken up with its number, the one that
--- is read with the step's moment, too; or neither half was.
-abbrev pub IsAdmitted : {P Q R D : Type 0} → ℕ → ℕ → P → Q → PumpStep P Q R D → Type 0
-IsAdmitted epoch class from to step =
-    ((proc : ℕ) × NotesStart epoch class proc step × AddsPipe proc to step.before step.now
+-- No start was noted: the desk refused it, and the machine refuses this very event where the
+-- journal is told; or the desk reported that it has stopped; or there was no memory.
+abbrev pub NotesNoStart : {P Q R D : Type 0} → ℕ → ℕ → PumpStep P Q R D → Type 0
+NotesNoStart epoch class step = (step.now.told ≡ step.before.told)
+    × (((why : Refusal) × (step.result ≡ turn.Acted (act.Start epoch class))
+    × Rose step.before.refused step.now.refused
+    × RefusesAt {A = ℕ} step.before.first step.moment (λ name. event.Started epoch name) epoch class
+    step.before.told (Err (fault.Engine why)))
+    ⊎ ((step.result ≡ turn.Ended) × Rose step.before.refused step.now.refused)
+    ⊎ ((step.result ≡ turn.WantOfMemory) × (step.now.refused ≡ step.before.refused)))
+
+-- a half was closed, and nothing was written to it
+abbrev pub IsClosedHalf : {Q : Type 0} → HalfTells Q → Q → Q → Type 0
+IsClosedHalf halves to shut = IsClosed (halves.closed shut)
+    × (halves.contents shut ≡ halves.contents to) × (halves.faults to ≤ halves.faults shut)
+
+-- a half that is written to and was not taken up was closed, unless it is left
+abbrev pub ClosesUnkept : {Q : Type 0} → HalfTells Q → Q → Turn → Type 0
+ClosesUnkept halves to turn.WantOfMemory = Unit {0}
+ClosesUnkept {Q = Q} halves to result = (shut : Q) × IsClosedHalf halves to shut
+
+-- The process was noted as started, none was refused, and both its halves were taken up with its
+-- number, the one that is read with the step's moment, too; or no start was noted, and neither was,
+-- and the one that is written to was closed, unless there was no memory.
+abbrev pub IsAdmitted : {P Q R D : Type 0} → HalfTells Q → ℕ → ℕ → P → Q → PumpStep P Q R D
+    → Type 0
+IsAdmitted halves epoch class from to step =
+    ((proc : ℕ) × (step.result ≡ turn.Acted (act.Start epoch class))
+    × (step.now.refused ≡ step.before.refused)
+    × NotesStart epoch class proc step × AddsPipe proc to step.before step.now
     × (step.now.readers ≡ step.before.readers
     ++ record { proc = proc; since = step.moment; from = from } ∷ [])
     × (step.now.asking ≡ step.before.asking))
-    ⊎ SameHalves step.before step.now
+    ⊎ (NotesNoStart epoch class step × SameHalves step.before step.now
+    × ClosesUnkept halves to step.result)
 
--- The process of a thread that answers look-ups was noted as started, and both its halves were
--- taken up with its number, the one that is read with the step's moment, too; or neither half was.
+-- The process of a thread that answers look-ups was noted as started, none was refused, and both
+-- its halves were taken up with its number, the one that is read with the step's moment, too; or no
+-- start was noted, and neither was.
 abbrev pub IsTakenUp : {P Q R D : Type 0} → ℕ → ℕ → AskerOut R → Q → PumpStep P Q R D → Type 0
 IsTakenUp epoch class from to step =
-    ((proc : ℕ) × NotesStart epoch class proc step × AddsPipe proc to step.before step.now
+    ((proc : ℕ) × (step.result ≡ turn.Acted (act.Start epoch class))
+    × (step.now.refused ≡ step.before.refused)
+    × NotesStart epoch class proc step × AddsPipe proc to step.before step.now
     × (step.now.readers ≡ step.before.readers)
     × (step.now.asking ≡ step.before.asking
     ++ record { proc = proc; since = step.moment; from = from } ∷ []))
-    ⊎ SameHalves step.before step.now
+    ⊎ (NotesNoStart epoch class step × SameHalves step.before step.now)
 
 -- nothing but the halves that are written to changed
 pub record SameButPipes {P Q R D : Type 0} (before now : PumpView P Q R D) : Type 0 where
@@ -253,7 +282,7 @@ IsStarting {P = P} {Q = Q} {R = R} tells epoch class step =
     × StartsMore step.before.starts step.now.starts words
     × IsFresh tells.read_faults tells.halves from to
     × (step.now.faults ≡ step.before.faults)
-    × IsAdmitted epoch class from to (behind_sweep step)
+    × IsAdmitted tells.halves epoch class from to (behind_sweep step)
     × ReportsRest (left.Started epoch class from to) step)
     ⊎ ((words : List (List ℕ)) × IsProgram tells.programs step.before epoch class (Some words)
     × (is_lookup_program words ≡ true) × IsAsking tells.configs epoch class step)
@@ -275,7 +304,7 @@ Resumes tells (left.Failed epoch class) step =
     × SameHalves step.before step.now
 Resumes tells (left.Started epoch class from to) step =
     ReportsRest (left.Started epoch class from to) step × SameSpawner step.before step.now
-    × IsAdmitted epoch class from to step
+    × IsAdmitted tells.halves epoch class from to step
 Resumes tells (left.Asked epoch class from to) step =
     ReportsRest (left.Asked epoch class from to) step × SameSpawner step.before step.now
     × IsTakenUp epoch class from to step

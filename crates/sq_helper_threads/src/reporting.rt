@@ -1,5 +1,6 @@
 //! The entries that a pump still owes the desk.
 ghost use Rattle.std.specs.Prelude.{◌≡◌, None};
+ghost use Rattle.sq_helper_threads.specs.Halves.{in_tells};
 ghost use Rattle.sq_helper_threads.specs.Pumps.{step};
 ghost use Rattle.sq_helper_threads.specs.Turning.{PumpCounts, IsAdmitted, IsTakenUp, Reports, SameHalves, SameSpawner};
 
@@ -53,14 +54,15 @@ impl<'a, S: Spawner, K: HelperCalls, R: Wait> ServePump<'a, S, K, R> {
         epoch: EpochNo,
         class: u32,
         from: S::ChildOut,
-        to: ProcIn<'a, S::ChildIn, R>,
+        mut to: ProcIn<'a, S::ChildIn, R>,
         now: Moment,
     ) -> Turn
         requires { self.old.left ≡ None }
         ensures reports { Reports (Left.Started epoch class from to.entry) now self.old.told
             self.old.refused self.old.stopped result self.new }
-        ensures admitted { IsAdmitted epoch class from to.entry
-            (step now self.old result self.new) }
+        ensures admitted { IsAdmitted
+            (in_tells S.ChildIn.contents S.ChildIn.faults S.ChildIn.closed) epoch class from
+            to.entry (step now self.old result self.new) }
         ensures spawner { SameSpawner self.old self.new }
         ensures counts { PumpCounts self.old self.new }
     {
@@ -78,7 +80,7 @@ impl<'a, S: Spawner, K: HelperCalls, R: Wait> ServePump<'a, S, K, R> {
                 Turn::Acted(Act::Start { epoch, class })
             }
             Err(DeskFault::Engine(_)) => {
-                let_go(from, to);
+                let_go(from, &mut to);
                 Turn::Acted(Act::Start { epoch, class })
             }
             Err(DeskFault::WantOfMemory) => self.leave(Left::Started {
@@ -88,7 +90,7 @@ impl<'a, S: Spawner, K: HelperCalls, R: Wait> ServePump<'a, S, K, R> {
                 to,
             }),
             Err(DeskFault::Stopped | DeskFault::JournalFault) => {
-                let_go(from, to);
+                let_go(from, &mut to);
                 Turn::Ended
             }
         }
@@ -100,7 +102,7 @@ impl<'a, S: Spawner, K: HelperCalls, R: Wait> ServePump<'a, S, K, R> {
         epoch: EpochNo,
         class: u32,
         from: AskerOut<'a, R>,
-        to: ProcIn<'a, S::ChildIn, R>,
+        mut to: ProcIn<'a, S::ChildIn, R>,
         now: Moment,
     ) -> Turn
         requires { self.old.left ≡ None }
@@ -125,7 +127,7 @@ impl<'a, S: Spawner, K: HelperCalls, R: Wait> ServePump<'a, S, K, R> {
                 Turn::Acted(Act::Start { epoch, class })
             }
             Err(DeskFault::Engine(_)) => {
-                let_go(from, to);
+                let_go(from, &mut to);
                 Turn::Acted(Act::Start { epoch, class })
             }
             Err(DeskFault::WantOfMemory) => self.leave(Left::Asked {
@@ -135,7 +137,7 @@ impl<'a, S: Spawner, K: HelperCalls, R: Wait> ServePump<'a, S, K, R> {
                 to,
             }),
             Err(DeskFault::Stopped | DeskFault::JournalFault) => {
-                let_go(from, to);
+                let_go(from, &mut to);
                 Turn::Ended
             }
         }

@@ -2,10 +2,11 @@
 //! name, so these are over the halves and the desk alone.
 ghost use Rattle.std.specs.Prelude.{◌≡◌, ◌-◌, ◌<◌, ◌++◌, ◌∷◌, [], false, OnOk, vec_capacity, vec_len};
 ghost use Rattle.sq_calls.specs.Telling.{CountsRefusal, IsStarted, Notes, RefusesAt};
+ghost use Rattle.sq_keeper.specs.Pipes.{half_tells};
 ghost use Rattle.sq_keeper.specs.PipeViews.{pipes_of, room_of};
 ghost use Rattle.sq_machine.specs.declared.entries.Event.TheVariants as event;
 ghost use Rattle.sq_machine.specs.declared.entries.Told.TheVariants as answer;
-ghost use Rattle.sq_helper_threads.specs.Turning.{TellsStop};
+ghost use Rattle.sq_helper_threads.specs.Turning.{IsClosedHalf, TellsStop};
 
 use crate::reader::Reader;
 use sq_base::{EpochNo, Moment, ProcNo, WantOfMemory};
@@ -79,7 +80,9 @@ pub(crate) fn put_both<P: Drop, Q: Out + Drop>(
     readers.push_reserved(Reader::new(proc, since, from));
 }
 
-// Closes the half of a process that is written to, which stops it, and lets go of both.
-pub(crate) fn let_go<P: Drop, Q: Out + Drop>(_from: P, mut to: Q) {
+// Closes the half of a process that is written to, which stops it, and lets go of the one that is read.
+pub(crate) fn let_go<P: Drop, Q: Out + Drop>(_from: P, to: &mut Q)
+    ensures { IsClosedHalf (half_tells Q.Sink.contents Q.Sink.faults Q.closed) to.old to.new }
+{
     to.close();
 }

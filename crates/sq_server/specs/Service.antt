@@ -120,6 +120,7 @@ pub record ServerSeen : Type 0 where
   pub journal : ℕ
   pub net : ℕ
 
+-- that of a world which told these
 abbrev pub server_seen : FilesSeen → Streams → ℕ → ℕ → ServerSeen
 server_seen files streams journal net =
     record { files = files; streams = streams; journal = journal; net = net }
