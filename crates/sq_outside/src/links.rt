@@ -5,6 +5,7 @@ ghost use Rattle.sq_outside.specs.Causes.{HasCause, TakesBack, count_limit};
 ghost use Rattle.sq_outside.specs.Dials.{Dialled, Coming, IsClosed, IsOpen, CallsMore, DialsMore, DialReaches, GivesDial, LinkComes};
 ghost use Rattle.sq_outside.specs.World.{IfLink, IfNoLink, AcceptHasCause};
 
+use crate::observing::DialSeen;
 use crate::traits::{Failed, Sink, Source};
 use sq_base::{Addr, Text};
 use std::alloc::Global;
@@ -71,6 +72,11 @@ pub trait Dialer {
         ensures calls { calls self.new ≡ calls self.old }
         ensures cause { TakesBack (faults self.old) (faults self.new)
             (Self.In.faults from + Self.Outgo.Sink.faults to) };
+
+    /// What it tells of its last dial: of one that failed, or that was given back. It takes no memory.
+    fn seen(&self) -> DialSeen {
+        DialSeen::nothing()
+    }
 
     ghost capped: { (dialer : Self) → faults dialer ≤ count_limit };
 }

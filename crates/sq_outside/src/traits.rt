@@ -8,6 +8,7 @@ ghost use Rattle.sq_outside.specs.Dials.{Origin};
 ghost use Rattle.sq_outside.specs.Soon.{CameAtMost, CameConsumes};
 ghost use Rattle.sq_outside.specs.Told.{Texts, GivesText, IsNotTold, Openings, Opens};
 
+use crate::observing::Observed;
 use sq_base::{Text, WantOfMemory};
 use std::alloc::Global;
 use thiserror::Error;
@@ -110,6 +111,10 @@ pub trait Sink {
         ensures some { IfOk result (λ n. 0 < length bytes.now → 0 < n) }
         ensures bytes { WriteAppends (contents self.old) (contents self.new) result bytes.now }
         ensures cause { HasCause (faults self.old) (faults self.new) result };
+
+    /// Hears what comes of the turns of the connection that it belongs to. It changes nothing that anybody is told, takes no
+    /// memory and waits for nobody.
+    fn observe(&self, _what: &Observed) {}
 
     ghost capped: { (sink : Self) → faults sink ≤ count_limit };
 }

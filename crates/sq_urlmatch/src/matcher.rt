@@ -55,8 +55,9 @@ fn is_found(
 }
 
 // The same by a search that begins with nothing, and has other ways where rows have no memory or don't
-// pay.
+// pay. Its searcher is no part of the stack on which a connection is served.
 #[cold]
+#[inline(never)]
 fn is_found_anew(alloc: Global, program: &Program, subject: &[u8]) -> Result<bool, WantOfMemory>
     ensures { IfOk result (λ b. b ≡ program_found subject.now program.now) }
 {
