@@ -22,7 +22,7 @@ use sq_base::{BodyPlan, Request};
 use sq_message::{
     BadBody, ReplyHead, ReplyHeadFault, Shape, read_reply_head, reply_plan, wants_close,
 };
-use sq_outside::{Sink, Source};
+use sq_outside::{Observed, Sink, Source};
 use std::alloc::Global;
 use std::sync::Wait;
 
@@ -244,6 +244,7 @@ pub(crate) fn send_reply<R: Wait, P: Source, O: Sink, M: Meter>(
     let Ok(text) = reply_head(alloc, outgoing.config, outgoing.facts, head, shape) else {
         return Exchanged::WantOfMemory;
     };
+    to_client.observe(&Observed::Replies(head.status));
     match pay(meter, to_client, text.as_bytes()) {
         Ok(()) => {}
         Err(Unpaid::Failed) => return Exchanged::ClientFault,

@@ -46,7 +46,7 @@ pub use cursor::{BodyCursor, Fed};
 pub use faults::{BadBody, ReplyHeadFault};
 pub use feed_faults::FeedFault;
 pub use name_test::{EachName, NameTest};
-pub use own::{Own, denial, error_text, redirect_text};
+pub use own::{Own, denial, error_text, redirect_text, status_of};
 pub use plans::{reply_plan, request_plan};
 pub use replies::{ReplyHead, Shape};
 pub use reply_out::{reply_head_out, reply_head_out_where};

@@ -80,7 +80,8 @@ pub fn redirect_text(alloc: Global, status: u16, url: &[u8]) -> Result<Text, Wan
     Ok(text)
 }
 
-fn status_of(own: Own) -> StatusCode
+/// The status of such a reply.
+pub fn status_of(own: Own) -> StatusCode
     ensures { result ≡ own_code own }
 {
     match own {

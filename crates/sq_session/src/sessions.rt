@@ -9,11 +9,11 @@ ghost use Rattle.sq_turns.specs.Sessions.{TellsWhole, SessionHasCause, dry_after
 ghost use Rattle.sq_turns.specs.Steps.{front_seen};
 ghost use Rattle.sq_turns.specs.Verdicts.{refusal_of};
 
-use crate::turning::turn;
+use crate::turning::{turn, turn_end};
 use sq_base::Addr;
 use sq_forward::{Duplex, Ends, Meter};
 use sq_message::Own;
-use sq_outside::{Dialer, Out, Sink};
+use sq_outside::{Dialer, Observed, Out, Sink};
 use sq_turns::{Carried, End, Front, Opened, say};
 use std::alloc::Global;
 use std::sync::Wait;
@@ -138,7 +138,9 @@ fn refuse<O: Sink>(alloc: Global, to: &mut O, own: Own) -> End
     ensures later { O.faults to.old ≤ O.faults to.new }
     ensures dry { dry_after_session result ≡ 0 }
 {
-    match say(alloc, to, own, false) {
+    let carried = say(alloc, to, own, false);
+    to.observe(&Observed::Ended(turn_end(carried)));
+    match carried {
         Carried::Stays => End::Finished,
         Carried::Closes => End::Finished,
         Carried::Over(end) => end,

@@ -9,10 +9,12 @@ ghost use Rattle.sq_turns.specs.Told.{TurnTold, AnswersTold, ObeysTold};
 ghost use Rattle.sq_forward.specs.Exchanges.{message};
 
 use sq_base::{Addr, Request};
+use sq_checks::Record;
 use sq_forward::{Duplex, Ends, Meter};
-use sq_outside::Dialer;
+use sq_outside::{Dialer, Observed, Sink, TurnEnd};
+use sq_rules::Why;
 use sq_turns::{
-    Carried, Front, Heard, JudgedRequest, denied_closes, deny, go_on, heard_of, is_head,
+    Carried, End, Front, Heard, JudgedRequest, denied_closes, deny, go_on, heard_of, is_head,
     next_request, say, verdict,
 };
 use std::alloc::Global;
@@ -50,11 +52,46 @@ pub(crate) fn turn<R: Threads + Wait + Sync, C: Ends, F: Front, D: Dialer>(
     ensures dialled { WasTold (D.dialled dialer.old) (D.dialled dialer.new) }
     ensures calls { CallsOnce (D.calls dialer.old) (D.calls dialer.new) }
 {
-    match heard_of(next_request(rt, alloc, &mut client.from)) {
+    let carried = match heard_of(next_request(rt, alloc, &mut client.from)) {
         Heard::Asks(request) => answer(rt, alloc, client, addr, &request, front, dialer),
         Heard::Refused(own) => say(alloc, &mut client.to, own, false),
         Heard::Silent(ended) => ended,
+    };
+    client.to.observe(&Observed::Ended(turn_end(carried)));
+    carried
+}
+
+/// How a turn ended, as its link is told it.
+pub(crate) fn turn_end(carried: Carried) -> TurnEnd {
+    match carried {
+        Carried::Stays => TurnEnd::Stays,
+        Carried::Closes | Carried::Over(End::Finished) => TurnEnd::Closes,
+        Carried::Over(End::Cut) => TurnEnd::Cut,
+        Carried::Over(End::ClientFault) => TurnEnd::ClientFault,
+        Carried::Over(End::OriginCut) => TurnEnd::OriginCut,
+        Carried::Over(End::OriginFault) => TurnEnd::OriginFault,
+        Carried::Over(End::Starved) => TurnEnd::Starved,
+        Carried::Over(End::WantOfMemory) => TurnEnd::WantOfMemory,
     }
+}
+
+// Tells a link what its request's check came to.
+fn tell_judged<O: Sink>(to: &O, judged: &Record) {
+    let outcome = judged.outcome();
+    let rule = match &outcome.why {
+        Why::Rule(rule) => Some(*rule),
+        Why::Fault {
+            rule,
+            acl: _,
+            cause: _,
+        } => Some(*rule),
+        Why::Default | Why::Empty => None,
+    };
+    to.observe(&Observed::Judged {
+        check: judged.check(),
+        allow: outcome.allow,
+        rule,
+    });
 }
 
 // Answers a request, whose body is the next to come. Its locals are no part of the stack on which the next one is waited for.
@@ -90,8 +127,10 @@ fn answer<R: Threads + Wait + Sync, C: Ends, F: Front, D: Dialer>(
     ensures dialled { WasTold (D.dialled dialer.old) (D.dialled dialer.new) }
     ensures calls { CallsOnce (D.calls dialer.old) (D.calls dialer.new) }
 {
+    client.to.observe(&Observed::Asked(request));
     match verdict(alloc, request, front) {
         Ok((judged, plan)) => {
+            tell_judged(&client.to, &judged);
             let request = JudgedRequest {
                 judged: &judged,
                 sent: request,

@@ -18,7 +18,7 @@ use crate::own_replies::{is_connect, is_head, is_served, say};
 use sq_base::Request;
 use sq_forward::{Ahead, Duplex, Ends, Half, Meter};
 use sq_message::Own;
-use sq_outside::{Dialer, LinkUse};
+use sq_outside::{Dialer, LinkUse, Observed, Sink};
 use std::alloc::Global;
 use std::sync::Wait;
 use std::thread::Threads;
@@ -76,6 +76,7 @@ pub(crate) fn carry<R: Threads + Wait + Sync, C: Ends, F: Front, D: Dialer>(
         ),
     }
     let carried = reach(rt, alloc, client, request, front, dialer);
+    client.to.observe(&Observed::Dialled(dialer.seen()));
     front.rise();
     carried
 }

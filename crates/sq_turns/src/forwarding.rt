@@ -14,7 +14,7 @@ use crate::judged::JudgedRequest;
 use crate::own_replies::{is_connect, is_head, say};
 use sq_forward::{Duplex, Ends, Exchanged, Meter, Outgoing, Tunnelled, exchange, tunnel};
 use sq_message::Own;
-use sq_outside::{Failed, write_all};
+use sq_outside::{Failed, Observed, Sink, write_all};
 use std::alloc::Global;
 use std::sync::Wait;
 use std::thread::Threads;
@@ -105,7 +105,10 @@ fn trade<R: Wait, C: Ends, O: Ends, M: Meter>(
     };
     let ended = exchange(rt, alloc, client, origin, meter, &outgoing);
     match ended {
-        Exchanged::NoReply => say(alloc, &mut client.to, Own::BadGateway, is_head(sent)),
+        Exchanged::NoReply => {
+            client.to.observe(&Observed::NoReply);
+            say(alloc, &mut client.to, Own::BadGateway, is_head(sent))
+        }
         ended => carried_of(ended),
     }
 }
@@ -157,6 +160,7 @@ fn connect<R: Threads + Wait + Sync, C: Ends, O: Ends, M: Meter>(
     ensures origin_dialled { O.In.origin origin.new.from.source
         ≡ O.In.origin origin.old.from.source }
 {
+    client.to.observe(&Observed::Replies(200));
     match write_all(
         &mut client.to,
         b"HTTP/1.1 200 Connection established\r\n\r\n",

@@ -11,10 +11,13 @@ ghost use Rattle.sq_turns.specs.declared.ends.Carried.TheVariants.{Stays, Closes
 
 use crate::ends::{Carried, End};
 use sq_base::{BodyPlan, Request};
-use sq_message::{BadBody, Own, denial, error_text, redirect_text, wants_close};
-use sq_outside::{Failed, Sink, write_all};
+use sq_message::{BadBody, Own, denial, error_text, redirect_text, status_of, wants_close};
+use sq_outside::{Failed, Observed, Sink, write_all};
 use sq_rules::Outcome;
 use std::alloc::Global;
+
+// The status of a denial.
+const FORBIDDEN: u16 = 403;
 
 /// Sends an own reply, behind which the connection closes.
 pub fn say<O: Sink>(alloc: Global, to: &mut O, own: Own, no_body: bool) -> Carried
@@ -27,7 +30,7 @@ pub fn say<O: Sink>(alloc: Global, to: &mut O, own: Own, no_body: bool) -> Carri
     let Ok(text) = error_text(alloc, own, no_body) else {
         return Carried::Over(End::WantOfMemory);
     };
-    write_reply(to, text.as_bytes(), Carried::Closes)
+    write_reply(to, status_of(own).as_u16(), text.as_bytes(), Carried::Closes)
 }
 
 /// Sends a denial.
@@ -49,9 +52,9 @@ pub fn deny<O: Sink>(
         return Carried::Over(End::WantOfMemory);
     };
     if closes {
-        write_reply(to, text.as_bytes(), Carried::Closes)
+        write_reply(to, FORBIDDEN, text.as_bytes(), Carried::Closes)
     } else {
-        write_reply(to, text.as_bytes(), Carried::Stays)
+        write_reply(to, FORBIDDEN, text.as_bytes(), Carried::Stays)
     }
 }
 
@@ -67,17 +70,18 @@ pub(crate) fn send_elsewhere<O: Sink>(alloc: Global, to: &mut O, status: u16, ur
     let Ok(text) = redirect_text(alloc, status, url) else {
         return Carried::Over(End::WantOfMemory);
     };
-    write_reply(to, text.as_bytes(), Carried::Closes)
+    write_reply(to, status, text.as_bytes(), Carried::Closes)
 }
 
-// Writes a text, and ends so.
-fn write_reply<O: Sink>(to: &mut O, text: &[u8], then: Carried) -> Carried
+// Writes the text of a reply with this status, and ends so.
+fn write_reply<O: Sink>(to: &mut O, status: u16, text: &[u8], then: Carried) -> Carried
     requires plain { (then ≡ Stays) ⊎ (then ≡ Closes) }
     ensures tells { WritesReply text.now then (O.contents to.old) (O.contents to.new) result }
     ensures cause { EndHasCause (Rose (O.faults to.old) (O.faults to.new)) ⊥ result }
     ensures later { O.faults to.old ≤ O.faults to.new }
     ensures dry { dry_after result ≡ 0 }
 {
+    to.observe(&Observed::Replies(status));
     match write_all(to, text) {
         Ok(()) => then,
         Err(Failed) => Carried::Over(End::ClientFault),

@@ -15,7 +15,7 @@ use crate::judged::JudgedRequest;
 use crate::own_replies::{is_connect, is_head, say, send_elsewhere};
 use sq_forward::{Duplex, Ends, Meter};
 use sq_message::Own;
-use sq_outside::Dialer;
+use sq_outside::{Dialer, Observed, Sink};
 use std::alloc::Global;
 use std::sync::Wait;
 use std::thread::Threads;
@@ -64,6 +64,7 @@ pub fn go_on<R: Threads + Wait + Sync, C: Ends, F: Front, D: Dialer>(
     match front.rewrite(alloc, judged) {
         Rewritten::Same => carry(rt, alloc, client, request, front, dialer),
         Rewritten::New(new) => {
+            client.to.observe(&Observed::Rewritten(&new));
             let request = JudgedRequest {
                 judged,
                 sent: &new,

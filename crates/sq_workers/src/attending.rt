@@ -13,7 +13,7 @@ use crate::sums::Sums;
 use sq_base::{Addr, ConnNo};
 use sq_calls::DeskCalls;
 use sq_forward::{Ahead, Duplex, Ends, Half};
-use sq_outside::{Clock, Dialer, Listener, Out, Sink};
+use sq_outside::{Clock, Dialer, Listener, Observed, Out, Sink};
 use sq_session::{SessionEnd, session};
 use sq_shared::{Ledgers, Refusals, WorkerTypes};
 use sq_turns::{Hub, HubFront};
@@ -159,6 +159,7 @@ fn serve<R: Threads + Wait + Sync, H: Hub + Drop, E: Ends, D: Dialer>(
         addr,
         port,
     } = link;
+    to.observe(&Observed::Served { conn, addr, port });
     let mut front = HubFront::new(rt, hub, conn);
     let mut client: Duplex<E> = Duplex {
         from: Half {
