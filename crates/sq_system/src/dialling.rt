@@ -80,7 +80,7 @@ fn order(alloc: Global, found: &FoundAddrs, now: u64) -> Option<Vec<Goal>> {
 struct Race<'a> {
     known: &'a [Known],
     port: u16,
-    times: LinkTimes,
+    times: &'a LinkTimes,
     poll: Option<Poll>,
     attempts: Vec<Attempt>,
 }
@@ -183,7 +183,7 @@ pub(crate) fn connect<R: Net + Clock>(
     alloc: Global,
     found: &FoundAddrs,
     port: u16,
-    times: LinkTimes,
+    times: &LinkTimes,
     begun: u64,
     wanting: &Wanting<'_>,
 ) -> Option<TcpStream> {

@@ -161,13 +161,29 @@ pub(crate) enum Side {
     Unknown,
 }
 
+/// What all links of a net share: how long their calls may wait, and the house of their listener, if they are beside one.
+#[derive(Drop)]
+pub(crate) struct LinkShared {
+    pub(crate) times: LinkTimes,
+    pub(crate) house: Option<Arc<House>>,
+}
+
+impl LinkShared {
+    // Whether the server was stopped too long ago for links to go on.
+    fn is_over(&self, clock: &impl Clock) -> bool {
+        match &self.house {
+            Some(house) => house.ends_links(clock, &self.times),
+            None => false,
+        }
+    }
+}
+
 /// What a half of a link needs to know to wait for its socket.
 pub(crate) struct LinkWatch<R> {
     rt: R,
     pub(crate) line: Arc<LinkStream>,
     pub(crate) side: Side,
-    house: Option<Arc<House>>,
-    times: LinkTimes,
+    links: Arc<LinkShared>,
 }
 
 // Written out, so that what lets a half of a link go proves one call.
@@ -177,8 +193,7 @@ impl<R: Drop> Drop for LinkWatch<R> {
             rt: _,
             line: _,
             side: _,
-            house: _,
-            times: _,
+            links: _,
         } = self;
     }
 }
@@ -224,15 +239,13 @@ impl<R: Copy> LinkWatch<R> {
         rt: R,
         line: Arc<LinkStream>,
         side: Side,
-        house: Option<Arc<House>>,
-        times: LinkTimes,
+        links: Arc<LinkShared>,
     ) -> LinkWatch<R> {
         LinkWatch {
             rt,
             line,
             side,
-            house,
-            times,
+            links,
         }
     }
 
@@ -242,8 +255,7 @@ impl<R: Copy> LinkWatch<R> {
             rt: self.rt,
             line: Arc::try_clone(&self.line).ok()?,
             side: self.side.another(),
-            house: copy_of(&self.house),
-            times: self.times,
+            links: Arc::try_clone(&self.links).ok()?,
         })
     }
 }
@@ -269,14 +281,6 @@ impl<R> LinkWatch<R> {
 // These are called by the thread that reads or writes this half. They touch its socket, what both halves share, and nothing of other
 // links.
 impl<R: Clock> LinkWatch<R> {
-    // Whether the server was stopped too long ago for links to go on.
-    fn is_over(&self) -> bool {
-        match &self.house {
-            Some(house) => house.ends_links(&self.rt, &self.times),
-            None => false,
-        }
-    }
-
     // How much of this limit is left that began to count then.
     fn left_of(&self, limit: Duration, since: u64) -> Option<Duration> {
         let passed = now(&self.rt).saturating_sub(since);
@@ -286,16 +290,17 @@ impl<R: Clock> LinkWatch<R> {
 
     // How long a call may wait yet, if it may. What nobody knows to whom it belongs, nobody wakes: it looks around by itself.
     fn left(&self, way: Way) -> Option<Duration> {
-        if self.is_over() || self.line.is_ended() {
+        let links = &self.links;
+        if links.is_over(&self.rt) || self.line.is_ended() {
             return None;
         }
-        let mut left = self.left_of(self.times.silent, self.line.last())?;
+        let mut left = self.left_of(links.times.silent, self.line.last())?;
         let piece = self.line.piece();
         if way == Way::In && piece > 0 {
-            left = left.min(self.left_of(self.times.head, piece)?);
+            left = left.min(self.left_of(links.times.head, piece)?);
         }
-        match (&self.side, &self.house) {
-            (Side::Unknown, Some(_)) => Some(left.min(self.times.tick)),
+        match (&self.side, &links.house) {
+            (Side::Unknown, Some(_)) => Some(left.min(links.times.tick)),
             _ => Some(left),
         }
     }
@@ -347,7 +352,7 @@ impl<R: Clock> LinkWatch<R> {
             let Some(left) = self.left(Way::In) else {
                 return Waited::Failed;
             };
-            let Some(most) = self.left_of(self.times.soon, begun) else {
+            let Some(most) = self.left_of(self.links.times.soon, begun) else {
                 return Waited::Nothing;
             };
             match self.poll(Way::In, left.min(most)) {
@@ -360,14 +365,14 @@ impl<R: Clock> LinkWatch<R> {
 
     /// Whether a call may be made. Where less is left for a head than a tick it waits here.
     pub(crate) fn may_begin(&self, way: Way) -> bool {
-        if self.is_over() || self.line.is_ended() {
+        if self.links.is_over(&self.rt) || self.line.is_ended() {
             return false;
         }
         if way == Way::Out || self.line.piece() == 0 {
             return true;
         }
         match self.left(way) {
-            Some(left) if left < self.times.tick => self.wait(way) == Waited::Ready,
+            Some(left) if left < self.links.times.tick => self.wait(way) == Waited::Ready,
             Some(_) => true,
             None => false,
         }

@@ -3,8 +3,8 @@
 ghost use Rattle.std.specs.Prelude.{◌≡◌, ◌≤◌, ◌-◌, ◌^◌, nat_lt, None, IfSome};
 
 use crate::again::raise;
-use crate::house::{House, now};
-use crate::link_stream::{LinkStream, LinkWatch, Side, Waited, Way, is_tick};
+use crate::house::now;
+use crate::link_stream::{LinkShared, LinkStream, LinkWatch, Side, Waited, Way, is_tick};
 use crate::seats::ClientSlot;
 use crate::times::LinkTimes;
 use sq_outside::{Expected, Failed, Out, Sink, Source};
@@ -52,7 +52,7 @@ impl Drop for Bond {
 }
 
 /// Sends small pieces at once, and lets a call block for a tick at the most.
-pub(crate) fn set(stream: &TcpStream, times: LinkTimes) -> io::Result<()> {
+pub(crate) fn set(stream: &TcpStream, times: &LinkTimes) -> io::Result<()> {
     stream.set_nodelay(true)?;
     stream.set_read_timeout(Some(times.tick))?;
     stream.set_write_timeout(Some(times.tick))
@@ -75,13 +75,12 @@ impl<R: Clock + Copy + Drop> RealIn<R> {
         alloc: Global,
         rt: R,
         stream: TcpStream,
-        times: LinkTimes,
-        house: Option<Arc<House>>,
+        links: Arc<LinkShared>,
         slot: Option<Arc<ClientSlot>>,
     ) -> Option<(RealIn<R>, RealOut<R>)>
         ensures fresh { IfSome result (λ h. (in_faults h.0 ≡ 0) × (out_faults h.1 ≡ 0)) }
     {
-        set(&stream, times).ok()?;
+        set(&stream, &links.times).ok()?;
         let line = Arc::new(alloc, LinkStream::new(stream, now(&rt))).ok()?;
         let (side, bond) = match slot {
             Some(slot) => {
@@ -90,7 +89,7 @@ impl<R: Clock + Copy + Drop> RealIn<R> {
             }
             None => (Side::Unknown, Bond::Nowhere),
         };
-        RealIn::halves(LinkWatch::new(rt, line, side, house, times), bond)
+        RealIn::halves(LinkWatch::new(rt, line, side, links), bond)
     }
 
     /// Both halves of a client's link, over a socket that has its settings from the listener's, which takes this slot.
@@ -98,8 +97,7 @@ impl<R: Clock + Copy + Drop> RealIn<R> {
         alloc: Global,
         rt: R,
         stream: TcpStream,
-        times: LinkTimes,
-        house: Arc<House>,
+        links: Arc<LinkShared>,
         slot: Option<Arc<ClientSlot>>,
     ) -> Option<(RealIn<R>, RealOut<R>)>
         ensures fresh { IfSome result (λ h. (in_faults h.0 ≡ 0) × (out_faults h.1 ≡ 0)) }
@@ -112,7 +110,7 @@ impl<R: Clock + Copy + Drop> RealIn<R> {
             }
             None => (Side::Unknown, Bond::Nowhere),
         };
-        RealIn::halves(LinkWatch::new(rt, line, side, Some(house), times), bond)
+        RealIn::halves(LinkWatch::new(rt, line, side, links), bond)
     }
 
     fn halves(watch: LinkWatch<R>, bond: Bond) -> Option<(RealIn<R>, RealOut<R>)>

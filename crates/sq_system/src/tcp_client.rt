@@ -6,7 +6,7 @@ use crate::again::raise;
 use crate::dialling::connect;
 use crate::hosts::has_one_spelling;
 use crate::house::{House, now};
-use crate::link_stream::{LinkStream, copy_of};
+use crate::link_stream::{LinkShared, LinkStream, copy_of};
 use crate::look_ups::{LookUps, Wanting, find};
 use crate::seats::ClientSlot;
 use crate::tcp::{RealIn, RealOut};
@@ -30,8 +30,7 @@ use std::time::Clock;
 #[derive(Drop)]
 pub struct RealDialer<R> {
     rt: R,
-    times: LinkTimes,
-    house: Option<Arc<House>>,
+    links: Option<Arc<LinkShared>>,
     seat: Option<Arc<ClientSlot>>,
     look_ups: Option<Arc<LookUps>>,
     faults: u64,
@@ -39,24 +38,23 @@ pub struct RealDialer<R> {
 }
 
 impl<R> RealDialer<R> {
-    /// A dialer of this runtime with these limits of time, beside no listener, and the count 0.
-    pub fn new(rt: R, times: LinkTimes) -> RealDialer<R> {
+    /// A dialer of this runtime with these limits of time, beside no listener, and the count 0. Without memory it reaches nobody.
+    pub fn new(alloc: Global, rt: R, times: LinkTimes) -> RealDialer<R> {
+        let links = LinkShared { times, house: None };
         RealDialer {
             rt,
-            times,
-            house: None,
+            links: Arc::new(alloc, links).ok(),
             seat: None,
             look_ups: None,
             faults: 0,
         }
     }
 
-    /// One beside a listener.
-    pub(crate) fn beside(rt: R, times: LinkTimes, house: Arc<House>) -> RealDialer<R> {
+    /// One beside a listener, with what that one's links share.
+    pub(crate) fn beside(rt: R, links: Arc<LinkShared>) -> RealDialer<R> {
         RealDialer {
             rt,
-            times,
-            house: Some(house),
+            links: Some(links),
             seat: None,
             look_ups: None,
             faults: 0,
@@ -68,8 +66,7 @@ impl<R: Copy> Another for RealDialer<R> {
     fn another(&self) -> RealDialer<R> {
         RealDialer {
             rt: self.rt,
-            times: self.times,
-            house: copy_of(&self.house),
+            links: copy_of(&self.links),
             seat: None,
             look_ups: copy_of(&self.look_ups),
             faults: 0,
@@ -78,13 +75,17 @@ impl<R: Copy> Another for RealDialer<R> {
 }
 
 impl<R> RealDialer<R> {
+    // The house of the listener that it is beside.
+    fn house(&self) -> Option<Arc<House>> {
+        copy_of(&self.links.as_ref()?.house)
+    }
+
     // The slot of the worker that calls.
     fn slot(&mut self, alloc: Global) -> Option<Arc<ClientSlot>>
         ensures kept { self.new.faults ≡ self.old.faults }
     {
-        let house = self.house.as_ref()?;
         if self.seat.is_none() {
-            self.seat = house.seat(alloc);
+            self.seat = self.house()?.seat(alloc);
         }
         copy_of(&self.seat)
     }
@@ -112,7 +113,7 @@ impl<R: Copy> RealDialer<R> {
     {
         Some(RealResolver {
             rt: self.rt,
-            house: copy_of(&self.house),
+            house: self.house(),
             look_ups: Some(self.look_ups(alloc)?),
             faults: 0,
         })
@@ -131,19 +132,19 @@ impl<
         host: &str,
         port: u16,
         client: &Option<Arc<LinkStream>>,
+        links: &LinkShared,
     ) -> Option<TcpStream>
         ensures kept { self.new.faults ≡ self.old.faults }
     {
         let begun = now(&self.rt);
         let look_ups = self.look_ups(alloc)?;
-        let house = copy_of(&self.house);
-        let wanting = Wanting::Dial(client, &house);
+        let wanting = Wanting::Dial(client, &links.house);
         let address = read_addr(host.as_bytes()).ok();
         let found = match address {
             Some(addr) => look_ups.literal(alloc, host, addr)?,
             None => find(&self.rt, alloc, &look_ups, host, &wanting)?,
         };
-        let stream = connect(&self.rt, alloc, &found, port, self.times, begun, &wanting);
+        let stream = connect(&self.rt, alloc, &found, port, &links.times, begun, &wanting);
         if stream.is_none() && address.is_some() {
             look_ups.keep_literal(alloc, host, found);
         }
@@ -159,19 +160,18 @@ impl<
         if !has_one_spelling(host) {
             return None;
         }
+        let links = copy_of(&self.links)?;
         let slot = self.slot(alloc);
         let client = client_of(&slot);
         // The doorkeeper may end a dial as it ends a link that waits.
         if let Some(client) = &client {
             client.enter();
         }
-        let stream = self.connect(alloc, host, port, &client);
+        let stream = self.connect(alloc, host, port, &client, &links);
         if let Some(client) = &client {
             client.leave();
         }
-        let stream = stream?;
-        let house = copy_of(&self.house);
-        RealIn::dialled(alloc, self.rt, stream, self.times, house, slot)
+        RealIn::dialled(alloc, self.rt, stream?, links, slot)
     }
 }
 

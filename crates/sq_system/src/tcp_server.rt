@@ -9,7 +9,7 @@ use crate::arrivals::{Arrival, Arrivals};
 use crate::children::RealSpawner;
 use crate::doorkeeper::{Doorkeeper, KeeperPost};
 use crate::house::{House, now};
-use crate::link_stream::{copy_of, is_tick};
+use crate::link_stream::{LinkShared, copy_of, is_tick};
 use crate::ready::{self, PollFor};
 use crate::seats::ClientSlot;
 use crate::tcp::{RealIn, RealOut, set};
@@ -67,8 +67,8 @@ pub struct RealListener<R> {
 struct Entrance<R> {
     rt: R,
     listener: TcpListener,
-    times: LinkTimes,
     house: Arc<House>,
+    links: Arc<LinkShared>,
 }
 
 impl<R: Drop> Drop for Entrance<R> {
@@ -76,8 +76,8 @@ impl<R: Drop> Drop for Entrance<R> {
         let Entrance {
             rt: _,
             listener,
-            times: _,
             house,
+            links: _,
         } = self;
         house.close();
         if !house.is_shared() {
@@ -121,9 +121,9 @@ impl<R: Net<Listener = TcpListener, Stream = TcpStream> + Copy + Drop> RealListe
     {
         let listener = bind(&rt, port)?;
         deepen(&listener);
-        let socket = socket_of(&listener, times)?;
-        let keys = HouseKeys::new(alloc, false)?;
-        Ok(RealListener::opened(rt, listener, socket, times, keys))
+        let socket = socket_of(&listener, &times)?;
+        let keys = HouseKeys::new(alloc, false, times)?;
+        Ok(RealListener::opened(rt, listener, socket, keys))
     }
 
     /// The same over a socket that listens already, and that other servers have, too. It is never shut: once the server is stopped
@@ -137,9 +137,9 @@ impl<R: Net<Listener = TcpListener, Stream = TcpStream> + Copy + Drop> RealListe
         ensures fresh { IfOk result (λ l. accept_faults l.listener ≡ 0) }
     {
         let tick = times.round;
-        let socket = socket_of(&listener, LinkTimes { tick, ..times })?;
-        let keys = HouseKeys::new(alloc, true)?;
-        Ok(RealListener::opened(rt, listener, socket, times, keys))
+        let socket = socket_of(&listener, &LinkTimes { tick, ..times })?;
+        let keys = HouseKeys::new(alloc, true, times)?;
+        Ok(RealListener::opened(rt, listener, socket, keys))
     }
 }
 
@@ -156,7 +156,7 @@ impl<R> RealListener<R> {
         house.set_workers(workers);
         let listener = self.entrance.listener.try_clone()?;
         post.give(
-            Doorkeeper::new(alloc, listener, self.entrance.times, messages),
+            Doorkeeper::new(alloc, listener, self.entrance.links.times, messages),
             house,
         );
         Ok(())
@@ -169,7 +169,7 @@ pub(crate) fn deepen(listener: &TcpListener) -> bool {
 }
 
 // Another handle of a listener's socket, which has its settings then.
-fn socket_of(listener: &TcpListener, times: LinkTimes) -> io::Result<TcpStream> {
+fn socket_of(listener: &TcpListener, times: &LinkTimes) -> io::Result<TcpStream> {
     let socket = TcpStream::from(OwnedFd::from(listener.try_clone()?));
     set(&socket, times)?;
     Ok(socket)
@@ -180,21 +180,25 @@ fn socket_of(listener: &TcpListener, times: LinkTimes) -> io::Result<TcpStream> 
 struct HouseKeys {
     entrance: Arc<House>,
     stopper: Arc<House>,
-    dialer: Arc<House>,
     spawner: Arc<House>,
+    accepted: Arc<LinkShared>,
+    dialled: Arc<LinkShared>,
 }
 
 impl HouseKeys {
-    fn new(alloc: Global, shared: bool) -> io::Result<HouseKeys> {
+    fn new(alloc: Global, shared: bool, times: LinkTimes) -> io::Result<HouseKeys> {
         let entrance = Arc::new(alloc, House::new(alloc, shared))?;
         let stopper = Arc::try_clone(&entrance)?;
-        let dialer = Arc::try_clone(&entrance)?;
         let spawner = Arc::try_clone(&entrance)?;
+        let house = Some(Arc::try_clone(&entrance)?);
+        let accepted = Arc::new(alloc, LinkShared { times, house })?;
+        let dialled = Arc::try_clone(&accepted)?;
         Ok(HouseKeys {
             entrance,
             stopper,
-            dialer,
             spawner,
+            accepted,
+            dialled,
         })
     }
 }
@@ -203,26 +207,22 @@ impl<R: Copy> RealListener<R> {
     ghost use Rattle.sq_system.specs.Adapters.{accept_faults};
 
     // The listener and those beside it, where all is there that they need.
-    fn opened(
-        rt: R,
-        listener: TcpListener,
-        socket: TcpStream,
-        times: LinkTimes,
-        keys: HouseKeys,
-    ) -> Listening<R>
+    fn opened(rt: R, listener: TcpListener, socket: TcpStream, keys: HouseKeys) -> Listening<R>
         ensures fresh { accept_faults result.listener ≡ 0 }
     {
         let HouseKeys {
             entrance: house,
             stopper,
-            dialer,
             spawner,
+            accepted: links,
+            dialled,
         } = keys;
+        let times = links.times;
         let entrance = Entrance {
             rt,
             listener,
-            times,
             house,
+            links,
         };
         Listening {
             listener: RealListener {
@@ -234,7 +234,7 @@ impl<R: Copy> RealListener<R> {
                 socket,
                 house: stopper,
             },
-            dialer: RealDialer::beside(rt, times, dialer),
+            dialer: RealDialer::beside(rt, dialled),
             spawner: RealSpawner::beside(rt, times, spawner),
         }
     }
@@ -279,7 +279,7 @@ impl<R: Clock> Entrance<R> {
     // Whether a link gave way of late.
     fn is_crowded(&self) -> bool {
         match self.house.since_crowd(&self.rt) {
-            Some(passed) => passed < self.times.crowd,
+            Some(passed) => passed < self.links.times.crowd,
             None => false,
         }
     }
@@ -287,9 +287,9 @@ impl<R: Clock> Entrance<R> {
     // Waits until a client comes or one says something, which the next call finds.
     fn gather(&self, queue: &mut Arrivals, now: u64) -> NextLink {
         let most = if self.house.is_shared() {
-            self.times.round
+            self.links.times.round
         } else {
-            self.times.crowd
+            self.links.times.crowd
         };
         if !queue.wait(&self.listener, most) {
             return NextLink::Nothing;
@@ -312,7 +312,7 @@ impl<R: Clock> Entrance<R> {
             return self.accept();
         }
         let now = now(&self.rt);
-        let silent = self.times.silent.as_millis().min(1 << 60) as u64;
+        let silent = self.links.times.silent.as_millis().min(1 << 60) as u64;
         match queue.take_speaking(now, now.saturating_sub(silent)) {
             Some(arrival) => NextLink::Link(arrival),
             None => self.gather(queue, now),
@@ -326,7 +326,7 @@ impl<R: Clock> Entrance<R> {
         if !self.house.is_stopped() {
             return true;
         }
-        self.house.is_shared() && !self.house.ends_links(&self.rt, &self.times)
+        self.house.is_shared() && !self.house.ends_links(&self.rt, &self.links.times)
     }
 
     // The next of those that came before the server was stopped, once it has said something. Nothing where none is left.
@@ -336,11 +336,11 @@ impl<R: Clock> Entrance<R> {
                 break;
             }
             let now = now(&self.rt);
-            let silent = self.times.used.as_millis().min(1 << 60) as u64;
+            let silent = self.links.times.used.as_millis().min(1 << 60) as u64;
             if let Some(arrival) = queue.take_speaking(now, now.saturating_sub(silent)) {
                 return NextLink::Link(arrival);
             }
-            queue.wait_for_words(self.times.round);
+            queue.wait_for_words(self.links.times.round);
         }
         queue.clear();
         NextLink::Nothing
@@ -380,8 +380,8 @@ impl<R: Clock + Wait + Copy + Drop> Entrance<R> {
     ) -> Option<(RealIn<R>, RealOut<R>)>
         ensures fresh { IfSome result (λ h. (in_faults h.0 ≡ 0) × (out_faults h.1 ≡ 0)) }
     {
-        let house = Arc::try_clone(&self.house).ok()?;
-        RealIn::accepted(alloc, self.rt, stream, self.times, house, copy_of(slot))
+        let links = Arc::try_clone(&self.links).ok()?;
+        RealIn::accepted(alloc, self.rt, stream, links, copy_of(slot))
     }
 
     // The link that came, if there is memory for it.

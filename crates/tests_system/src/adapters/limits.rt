@@ -51,7 +51,7 @@ fn a_silent_link_fails_in_time(rt: HostRuntime) {
         .expect(&rt, "a port")
         .listener;
     let port = listener.port().expect(&rt, "a port");
-    let mut dialer = RealDialer::new(rt, silent());
+    let mut dialer = RealDialer::new(alloc, rt, silent());
     let (mut from, mut to) = dials(alloc, &mut dialer, b"127.0.0.1", port).expect(
         &rt,
         "not reached",
@@ -82,7 +82,7 @@ fn what_is_written_keeps_the_half_that_is_read(rt: HostRuntime) {
         .expect(&rt, "a port")
         .listener;
     let port = listener.port().expect(&rt, "a port");
-    let mut dialer = RealDialer::new(rt, silent());
+    let mut dialer = RealDialer::new(alloc, rt, silent());
     let (mut from, mut to) = dials(alloc, &mut dialer, b"127.0.0.1", port).expect(
         &rt,
         "not reached",
@@ -110,7 +110,7 @@ fn a_read_that_is_to_return_soon_finds_that_nothing_came(rt: HostRuntime) {
         .expect(&rt, "a port")
         .listener;
     let port = listener.port().expect(&rt, "a port");
-    let mut dialer = RealDialer::new(rt, short());
+    let mut dialer = RealDialer::new(alloc, rt, short());
     let (mut from, _to) = dials(alloc, &mut dialer, b"127.0.0.1", port).expect(&rt, "not reached");
     let mut other = accepts(alloc, &mut listener).expect(&rt, "a link");
     let mut clock = RealClock::new(rt);
@@ -131,7 +131,7 @@ fn a_head_ends_in_time_however_slowly_it_comes(rt: HostRuntime) {
         .expect(&rt, "a port")
         .listener;
     let port = listener.port().expect(&rt, "a port");
-    let mut dialer = RealDialer::new(rt, short());
+    let mut dialer = RealDialer::new(alloc, rt, short());
     let (_from, mut to) = dials(alloc, &mut dialer, b"127.0.0.1", port).expect(&rt, "not reached");
     let mut other = accepts(alloc, &mut listener).expect(&rt, "a link");
     let reading = thread::spawn(&rt, move || {

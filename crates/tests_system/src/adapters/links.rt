@@ -25,7 +25,7 @@ fn each_side_sends_1_mib_and_closes(rt: HostRuntime) {
     let listener = net.listener;
     let port = listener.port().expect(&rt, "a port");
     let other = thread::spawn(&rt, move || replies(alloc, listener)).expect(&rt, "a thread");
-    let mut dialer = RealDialer::new(rt, LinkTimes::of_server()).another();
+    let mut dialer = RealDialer::new(alloc, rt, LinkTimes::of_server()).another();
     let (mut from, mut to) = dials(alloc, &mut dialer, b"127.0.0.1", port).expect(
         &rt,
         "not reached",

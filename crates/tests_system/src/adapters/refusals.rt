@@ -33,7 +33,7 @@ static NO_HOSTS: [&[u8]; 3] = [b"", b"\xff.example", b"a\0b"];
 #[test]
 fn what_is_no_host_is_not_reached(rt: HostRuntime) {
     let alloc = rt.alloc();
-    let mut dialer = RealDialer::new(rt, LinkTimes::of_server());
+    let mut dialer = RealDialer::new(alloc, rt, LinkTimes::of_server());
     let mut resolver = RealResolver::new(rt).another();
     for &host in &NO_HOSTS {
         assert!(rt; dials(alloc, &mut dialer, host, 80).is_err(), "at {host:?}");
