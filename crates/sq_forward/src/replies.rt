@@ -108,6 +108,7 @@ fn is_to_close(plan: BodyPlan) -> bool
 }
 
 /// Passes on the heads that are not the reply's own, to a client that knows them, and takes its own.
+#[inline(never)]
 pub(crate) fn lead_reply<R: Wait, P: Source, O: Sink, M: Meter>(
     rt: &R,
     alloc: Global,
@@ -210,6 +211,7 @@ fn pass_on<O: Sink, M: Meter>(
 }
 
 /// Sends the reply with this head, and the body that comes behind it.
+#[inline(never)]
 pub(crate) fn send_reply<R: Wait, P: Source, O: Sink, M: Meter>(
     rt: &R,
     alloc: Global,

@@ -20,6 +20,7 @@ use std::alloc::Global;
 use std::sync::Wait;
 
 /// Sends the request's head and its body, behind what a client hears that waits. None: all of it was sent.
+#[inline(never)]
 pub(crate) fn send_request<R: Wait, I: Source, O: Sink, Q: Sink>(
     rt: &R,
     alloc: Global,

@@ -6,6 +6,7 @@
 
 use crate::link_stream::{LinkStream, copied, copy_of, has_passed, put};
 use crate::times::LinkTimes;
+use libc::PATH_MAX;
 use std::alloc::Global;
 use std::sync::atomic::{AtomicBool, Ordering};
 use std::sync::{Arc, Mutex};
@@ -198,12 +199,19 @@ pub(crate) struct ClientSlots {
     slots: Mutex<Vec<Arc<ClientSlot>>>,
 }
 
-// The number of the thread that calls: the last part of a text such as `812/task/815`. This is the system's own call, since std's
-// takes 12 KiB of the stack, and this one 8, which each worker that waits would hold if they were part of a caller's frame.
+// The number of the thread that calls: the last part of a text such as `812/task/815`. The path is on the heap: std's call of this
+// takes 12 KiB of the stack, and that of `os` 8, which each worker would hold for good.
 #[inline(never)]
-fn thread() -> Option<u64> {
+fn thread(alloc: Global) -> Option<u64> {
+    let mut path = Vec::new(alloc);
+    path.extend_from_slice(b"/proc/thread-self").ok()?;
+    path.resize(PATH_MAX, 0).ok()?;
+    let path: &[u8; PATH_MAX] = path.as_slice().as_array()?;
+    if path[PATH_MAX - 1] != 0 {
+        return None;
+    }
     let mut text = [0u8; 64];
-    let count = usize::try_from(os::readlink(b"/proc/thread-self", &mut text)).ok()?;
+    let count = usize::try_from(unsafe { libc::readlink(path, &mut text) }).ok()?;
     let path = str::from_utf8(text.get(..count)?).ok()?;
     path.rsplit('/').next()?.parse().ok()
 }
@@ -246,7 +254,7 @@ impl ClientSlots {
 
     /// The slot of the thread that calls, which is made where there is none.
     pub(crate) fn own(&self, alloc: Global) -> Option<Arc<ClientSlot>> {
-        let thread = thread()?;
+        let thread = thread(alloc)?;
         for _ in 0..TRIES {
             if let Some(mut slots) = self.slots.try_lock() {
                 return slot_of(alloc, &mut slots, thread);

@@ -192,6 +192,7 @@ impl<
     ghost use Rattle.sq_system.specs.Adapters.{in_faults, out_faults};
 
     // The same, if there is what this use of the link needs beside.
+    #[inline(never)]
     fn reach_for(
         &mut self,
         alloc: Global,

@@ -385,6 +385,7 @@ impl<R: Clock + Wait + Copy + Drop> Entrance<R> {
     }
 
     // The link that came, if there is memory for it.
+    #[inline(never)]
     fn let_in(
         &self,
         alloc: Global,
@@ -405,6 +406,7 @@ impl<R: Clock + Wait + Copy + Drop> Entrance<R> {
     }
 
     // Waits for the next link.
+    #[inline(never)]
     fn next(&mut self, alloc: Global) -> Accepted<RealIn<R>, RealOut<R>>
         ensures fresh { IfLink result
             (λ from to addr port. (in_faults from ≡ 0) × (out_faults to ≡ 0)) }

@@ -85,6 +85,7 @@ fn decided_of(fault: HubFault) -> Decided
 }
 
 // A record, where it is of this request.
+#[inline(never)]
 fn compared(alloc: Global, judged: Record, request: &Request) -> Decided
     ensures same { judged.sight.request ≡ request.now → result ≡ decided.Record judged }
     ensures record { Decides request.now result }

@@ -14,6 +14,7 @@ use std::alloc::Global;
 
 /// Asks about a request whose body can be read: the record of its check, and its body's plan; or the reply that
 /// its client gets instead.
+#[inline(never)]
 pub fn verdict<F: Front>(
     alloc: Global,
     request: &Request,
