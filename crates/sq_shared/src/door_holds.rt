@@ -12,6 +12,7 @@ use std::sync::{Mutex, Wait};
 
 /// Waits for the next link, which is one that the listener gave in some state of it. The lock is held until one comes.
 #[tactic(auto, using(crate::proofs::DoorLaws::comes_from))]
+#[inline(never)]
 pub fn accept<R: Wait, L: Listener + Drop>(
     rt: &R,
     alloc: Global,

@@ -188,6 +188,7 @@ pub(crate) struct LinkWatch<R> {
 
 // Written out, so that what lets a half of a link go proves one call.
 impl<R: Drop> Drop for LinkWatch<R> {
+    #[inline(never)]
     fn drop(self) {
         let LinkWatch {
             rt: _,

@@ -27,7 +27,6 @@ use std::time::Clock;
 /// for a rule, it dials no other address than those that were found then. For a tunnel it sees first whether a thread can be had,
 /// and dials nobody where none is given. It is used by one thread: what it dials is for the client whose link this thread has
 /// accepted last.
-#[derive(Drop)]
 pub struct RealDialer<R> {
     rt: R,
     links: Option<Arc<LinkShared>>,
@@ -35,6 +34,20 @@ pub struct RealDialer<R> {
     look_ups: Option<Arc<LookUps>>,
     faults: u64,
     ghost capped: { faults ≤ 2 ^ 63 - 1 },
+}
+
+// Written out, so that what it takes of the stack is no part of a worker's frame.
+impl<R: Drop> Drop for RealDialer<R> {
+    #[inline(never)]
+    fn drop(self) {
+        let RealDialer {
+            rt: _,
+            links: _,
+            seat: _,
+            look_ups: _,
+            faults: _,
+        } = self;
+    }
 }
 
 impl<R> RealDialer<R> {

@@ -48,6 +48,7 @@ pub enum Heard {
 }
 
 /// What becomes of what an input begins with.
+#[inline(never)]
 pub fn heard_of(begun: Begun) -> Heard
     ensures { result ≡ heard_of begun }
 {
@@ -63,6 +64,7 @@ pub fn heard_of(begun: Begun) -> Heard
 }
 
 /// Reads the head of the next request. What follows it stays.
+#[inline(never)]
 pub fn next_request<R: Wait, S: Source>(rt: &R, alloc: Global, client: &mut Half<S>) -> Begun
     ensures begins { BeginsTold (to_come S.left client.old) (to_come S.left client.new) result }
     ensures cause { result ≡ Begun.Failed

@@ -60,6 +60,7 @@ pub(crate) fn forward<R: Threads + Wait + Sync, C: Ends, O: Ends, M: Meter>(
 }
 
 // Exchanges a request for its reply. Where there is none that can be passed on, the client hears that.
+#[inline(never)]
 fn trade<R: Wait, C: Ends, O: Ends, M: Meter>(
     rt: &R,
     alloc: Global,
@@ -132,6 +133,7 @@ fn carried_of(ended: Exchanged) -> Carried
 }
 
 // Tells the client that the tunnel is there, and copies both ways.
+#[inline(never)]
 fn connect<R: Threads + Wait + Sync, C: Ends, O: Ends, M: Meter>(
     rt: &R,
     alloc: Global,

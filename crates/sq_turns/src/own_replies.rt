@@ -20,6 +20,7 @@ use std::alloc::Global;
 const FORBIDDEN: u16 = 403;
 
 /// Sends an own reply, behind which the connection closes.
+#[inline(never)]
 pub fn say<O: Sink>(alloc: Global, to: &mut O, own: Own, no_body: bool) -> Carried
     ensures tells { WritesReply (error_text own no_body) Closes (O.contents to.old)
         (O.contents to.new) result }
@@ -34,6 +35,7 @@ pub fn say<O: Sink>(alloc: Global, to: &mut O, own: Own, no_body: bool) -> Carri
 }
 
 /// Sends a denial.
+#[inline(never)]
 pub fn deny<O: Sink>(
     alloc: Global,
     to: &mut O,

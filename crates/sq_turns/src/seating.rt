@@ -13,6 +13,7 @@ use sq_pools::{ChooseFault, HeldSeat};
 use std::alloc::Global;
 
 /// Takes the seat of a record, if it takes one. It takes memory for a tag where its pool has buckets by tags.
+#[inline(never)]
 pub(crate) fn take_seat<H: Hub>(
     alloc: Global,
     hub: &mut H,
