@@ -31,7 +31,12 @@ pub fn say<O: Sink>(alloc: Global, to: &mut O, own: Own, no_body: bool) -> Carri
     let Ok(text) = error_text(alloc, own, no_body) else {
         return Carried::Over(End::WantOfMemory);
     };
-    write_reply(to, status_of(own).as_u16(), text.as_bytes(), Carried::Closes)
+    write_reply(
+        to,
+        status_of(own).as_u16(),
+        text.as_bytes(),
+        Carried::Closes,
+    )
 }
 
 /// Sends a denial.
