@@ -6,6 +6,8 @@
 //! bytes a read gives and a write takes.
 mod failing;
 mod links;
+mod observed;
+mod overheard;
 mod pieces;
 mod running;
 mod turns;

@@ -12,10 +12,10 @@ use std::sync::Wait;
 use std::thread::Threads;
 
 /// The most bytes of a read and of a write.
-const STEP: usize = 40;
+pub const STEP: usize = 40;
 
 /// What each origin sends, a head of 39 bytes and a body of 40.
-const REPLY: &str =
+pub const REPLY: &str =
     "HTTP/1.1 200 OK\r\nContent-Length: 40\r\n\r\n0123456789012345678901234567890123456789";
 
 /// What a client hears of an origin that is not reached, or whose link fails before the head of its reply.
@@ -24,8 +24,8 @@ const NO_REPLY: &str =
     Connection: close\r\n\r\nbad gateway\n";
 
 /// What a client sends, and what it is sent and the origins are where nothing fails.
-struct Session {
-    input: &'static str,
+pub struct Session {
+    pub input: &'static str,
     to_client: &'static str,
     to_origins: &'static str,
 }
@@ -34,7 +34,7 @@ struct Session {
 /// redirector sends to another host; and one of 45 bytes that goes on as it is, to a host in capitals with an
 /// empty port, which is 80. The client is sent a denial of 86 bytes, and two replies with heads of 58 and bodies of 40.
 /// One host is sent a head of 122 bytes and the body, the other one a head of 102.
-static THREE: Session = Session {
+pub static THREE: Session = Session {
     input: "GET http://denied.example/ HTTP/1.1\r\nHost: h\r\n\r\n\
         POST http://a.example/x HTTP/1.1\r\nHost: a\r\nX-Hop: 1\r\nConnection: X-Hop\r\nContent-Length: 60\r\n\r\n\
         012345678901234567890123456789012345678901234567890123456789\
@@ -50,7 +50,7 @@ static THREE: Session = Session {
 };
 
 /// A tunnel: a head of 47 bytes and 80 more. The client is sent 39 bytes, and what the origin sends.
-static TUNNEL: Session = Session {
+pub static TUNNEL: Session = Session {
     input: "CONNECT [2001:db8::2]:443 HTTP/1.1\r\nHost: a\r\n\r\n\
         01234567890123456789012345678901234567890123456789012345678901234567890123456789",
     to_client: "HTTP/1.1 200 Connection established\r\n\r\n\

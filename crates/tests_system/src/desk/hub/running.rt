@@ -1,5 +1,6 @@
 //! A session over a machine in memory, of whose hub or links a call may fail.
 use crate::desk::hub::failing::Failing;
+use crate::desk::hub::overheard::Overheard;
 use Place::{ClientRead, ClientWrite, Dial, OriginRead, OriginWrite};
 use sq_base::{Addr, ConnNo, Copying, Moment, Text};
 use sq_conf::read_config;
@@ -96,13 +97,14 @@ pub struct Links<'a> {
     pub fault: Fault,
 }
 
-/// What a session came to: how it ended, what its client was sent and all origins were, and whether the call of the hub
-/// was made to fail.
+/// What a session came to: how it ended, what its client was sent and all origins were, what the client's link was told of its
+/// turns, and whether the call of the hub was made to fail.
 #[derive(Drop)]
 pub struct Ran {
     pub end: SessionEnd,
     pub text: Text,
     pub sent: Text,
+    pub heard: Text,
     pub failed: bool,
 }
 
@@ -225,12 +227,13 @@ pub fn run_from<R: Threads + Wait + Sync + Abort, S: Source + Send + Drop>(
     let wire = Wire::new(alloc, ROOM).expect(rt, "memory");
     let writes = fails(rt, alloc, links.fault, ClientWrite);
     let sink = MemSink::new(alloc, ROOM, links.step, writes).expect(rt, "memory");
-    let mut link: Duplex<(S, MemOut)> = Duplex {
+    let heard = Wire::new(alloc, ROOM).expect(rt, "memory");
+    let mut link: Duplex<(S, Overheard<MemOut>)> = Duplex {
         from: Half {
             source,
             ahead: Ahead::new(alloc),
         },
-        to: MemOut::new(sink, Some(&wire)),
+        to: Overheard::new(MemOut::new(sink, Some(&wire)), &heard),
     };
     let mut dialer = dialer(rt, alloc, links);
     let hub = Failing::new(machine(rt, alloc), call);
@@ -243,6 +246,7 @@ pub fn run_from<R: Threads + Wait + Sync + Abort, S: Source + Send + Drop>(
         end,
         text: wire.text(alloc).expect(rt, "memory"),
         sent: sent(rt, alloc, &dialer),
+        heard: heard.text(alloc).expect(rt, "memory"),
         failed: hub.failed(),
     };
     (ran, source)
