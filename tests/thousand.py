@@ -10,6 +10,7 @@ The scenes:
     browsers  six tunnels each, and a page of 18 objects every five seconds: pages that come whole, and how long they take
     kept      connections that were asked for one page and stay open: memory, processor
     load      requests over 64 and over many kept connections: how many a second, and how long each takes
+    grants    tunnels that share one bucket, 10 and many: what a piece costs; of this proxy alone
     start     the time to `listening`, and the memory of workers that wait
     orders    `reconfigure` with 60,000 domains, and `shutdown` with many open tunnels; of this proxy alone
 
@@ -31,9 +32,11 @@ from thousand_parts.origin import origin  # noqa: E402
 from thousand_parts.proxies import RULES, Proxy, ours, raise_limit, squid, squid_path  # noqa: E402
 
 TOP = Path(__file__).resolve().parent.parent
-SCENES = ("tunnels", "browsers", "kept", "load", "start", "orders")
+SCENES = ("tunnels", "browsers", "kept", "load", "grants", "start", "orders")
 WORDS = (("silent", 0.0), ("a word each 30 s", 30.0), ("a word each second", 1.0))
 DOMAINS = 60_000
+# What the bucket of the scene `grants` gains in a second, and how much it holds.
+GAIN = 1_000_000
 
 
 class Scenes:
@@ -141,6 +144,27 @@ class Scenes:
                     return cells
 
                 yield [f"1 KiB over {count:,} kept connections", proxy.name, *self.limited(work, 3 * clients.PATIENCE + self.options.seconds + count / 20)]
+
+    def grants(self) -> Iterator[list[str]]:
+        """Of this proxy alone: Squid grants otherwise."""
+        rules = f"{RULES}delay_pools 1\ndelay_class 1 1\ndelay_access 1 allow all\ndelay_parameters 1 {GAIN}/{GAIN}\n"
+        seconds = self.options.seconds
+        for count in (10, min(self.options.counts)):
+            with ours(self.options.program, self.folder, self.options.workers, rules) as proxy:
+
+                async def work(proxy: Proxy = proxy, count: int = count) -> list[str]:
+                    links, came = await clients.many(count, proxy.port, self.origin, True)
+                    took = proxy.took()
+                    pieces, length = await clients.pull(links, seconds, 2 * int(GAIN * (seconds + 1)) // count)
+                    spent = proxy.took() - took
+                    for link in links:
+                        link.close()
+                    return [
+                        f"{came.good:,} of {count:,} open; {length / seconds:,.0f} bytes a second in {pieces:,} pieces",
+                        f"{spent / max(1, pieces) * 1e6:.0f} microseconds a piece",
+                    ]
+
+                yield [f"{count:,} tunnels that share a bucket", proxy.name, *self.limited(work, 3 * clients.PATIENCE + seconds + count / 20)]
 
     def start(self) -> Iterator[list[str]]:
         for proxy in self.proxies():

@@ -189,6 +189,28 @@ async def browse(proxy: int, origin: int, count: int, seconds: float) -> tuple[C
     return pages, objects
 
 
+async def pull(links: list[Link], seconds: float, length: int) -> tuple[int, int]:
+    """Each tunnel sends so many bytes, and reads what comes back for so long: how many pieces came, and bytes."""
+    pieces = total = 0
+    until = time.monotonic() + seconds
+
+    async def one(link: Link) -> None:
+        nonlocal pieces, total
+        link.writer.write((b"x" * 1023 + b"\n") * (length // 1024 + 1))
+        while (left := until - time.monotonic()) > 0:
+            try:
+                piece = await asyncio.wait_for(link.reader.read(65536), left)
+            except (OSError, TimeoutError, asyncio.TimeoutError):
+                return
+            if not piece:
+                return
+            pieces += 1
+            total += len(piece)
+
+    await asyncio.gather(*(one(link) for link in links))
+    return pieces, total
+
+
 async def load(links: list[Link], origin: int, seconds: float) -> Came:
     """Requests over kept connections, one after the other on each, for so long."""
     came = Came()
