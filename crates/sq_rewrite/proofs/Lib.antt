@@ -3,6 +3,7 @@ mod ActLaws
 mod AgreeLaws
 mod FarmLaws
 mod FindLaws
+mod HandLaws
 mod LostLaws
 mod OpenLaws
 mod RoundLaws

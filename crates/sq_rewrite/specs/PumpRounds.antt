@@ -1,14 +1,15 @@
 -- What a round of a rewriter's pump does: it hands out halves, makes a turn, and ends a process
 -- that has waited for its keeper's thread.
-use Rattle.std.specs.Prelude.{◌≡◌, ◌⊎◌, ℕ, ◌+◌, ◌++◌, Bool, true, false, List, [], Some, None, position, slice_get, take, drop}
+use Rattle.std.specs.Prelude.{◌≡◌, ◌⊎◌, ℕ, ◌+◌, ◌++◌, Bool, true, false, List, [], ◌∷◌, Some, None, Result, Ok, Err, position, slice_get, take, drop}
 use Rattle.std.specs.declared.option.Option.{Option}
 use Rattle.sq_keeper.specs.Pipes.{HalfTells}
 use Rattle.sq_keeper.specs.Waiting.{has_waited}
-use Rattle.sq_outside.specs.Causes.{Rose}
+use Rattle.sq_outside.specs.Causes.{raised}
 use Rattle.sq_outside.specs.World.{GivesMoment}
 use Rattle.sq_rewrite.specs.Handing.{HandsDeath}
 use Rattle.sq_rewrite.specs.Pumps.{RewritePumpView, step}
 use Rattle.sq_rewrite.specs.Turning.{ClosesHalf, TurnsFrom}
+use Rattle.sq_rewrite.specs.declared.half_counts.HalfCounts.{HalfCounts}
 use Rattle.sq_rewrite.specs.declared.rounds.RoundEnd.{RoundEnd}
 use Rattle.sq_rewrite.specs.declared.rounds.RoundEnd.TheVariants as end
 use Rattle.sq_rewrite.specs.declared.turns.RewriterTurn.{RewriterTurn}
@@ -28,9 +29,40 @@ pub record TakesWaited {P : Type 0} (moment : ℕ) (half : UnreadHalf P)
   pub half_is : slice_get old place ≡ Some half
   pub new_is : new ≡ take place old ++ drop (place + 1) old
 
--- halves were handed out, and nothing else changed
-abbrev pub HandsOut : {P Q : Type 0} → RewritePumpView P Q → RewritePumpView P Q → Type 0
-HandsOut before now = now ≡ record before { readers = now.readers; room = now.room }
+-- a half was given to a keeper exactly where the call says so, and else a keeper could not be had;
+-- either is counted
+abbrev pub CountsKeeper : {A E : Type 0} → HalfCounts → HalfCounts → Result A E → Type 0
+CountsKeeper had has (Ok a) = (has.given ≡ raised had.given) × (has.refused ≡ had.refused)
+CountsKeeper had has (Err e) = (has.given ≡ had.given) × (has.refused ≡ raised had.refused)
+
+-- a count after each of these was counted
+abbrev pub counted : {A : Type 0} → List A → ℕ → ℕ
+counted [] n = n
+counted (half ∷ halves) n = raised (counted halves n)
+
+-- a count after a refusal, where there was one
+abbrev pub counted_if : Bool → ℕ → ℕ
+counted_if true n = raised n
+counted_if false n = n
+
+-- Of the halves that were held, these were given to keepers, the last one first: all of them; or
+-- all behind one for which no keeper could be had, and one that was handed back is held in its
+-- place.
+abbrev pub GivesHalves : {P : Type 0} → Bool → List (UnreadHalf P) → List (UnreadHalf P)
+    → List (UnreadHalf P) → Type 0
+GivesHalves false held given kept = (held ≡ given) × (kept ≡ [])
+GivesHalves {P = P} true held given kept = (front : List (UnreadHalf P)) × (half : UnreadHalf P)
+    × (back : UnreadHalf P) × (held ≡ front ++ half ∷ given) × (kept ≡ front ++ back ∷ [])
+
+-- Halves were given to keepers, up to one for which none could be had, where there was one. Each
+-- that was given is counted once, a refusal exactly where there was one, and nothing else changed.
+pub record HandsOut {P Q : Type 0} (before : RewritePumpView P Q) (had : HalfCounts)
+    (is_refused : Bool) (now : RewritePumpView P Q) (has : HalfCounts) : Type 0 where
+  pub given : List (UnreadHalf P)
+  pub halves : GivesHalves is_refused before.readers given now.readers
+  pub given_is : has.given ≡ counted given had.given
+  pub refused_is : has.refused ≡ counted_if is_refused had.refused
+  pub same : now ≡ record before { readers = now.readers; room = now.room }
 
 -- the first process that has waited for its keeper for so long was ended: its half that is written
 -- to was closed, and its death was noted or refused
@@ -70,13 +102,13 @@ pub record TurnsAndEnds {P Q : Type 0} (read_faults : P → ℕ) (tells : HalfTe
   pub turns : TurnsFrom read_faults tells before.left (step moment before turn turned)
   pub ends : EndsRound tells moment is_refused turn turned result now
 
--- what is seen of a pump round a round: the pump before and after, how often a keeper's thread was
--- refused, and the moments that its clock will give
+-- what is seen of a pump round a round: the pump before and after, how many halves keepers were
+-- given and how often one could not be had, and the moments that its clock will give
 pub record RoundSeen (P Q : Type 0) : Type 0 where
   pub before : RewritePumpView P Q
   pub now : RewritePumpView P Q
-  pub refused_before : ℕ
-  pub refused_now : ℕ
+  pub counts_before : HalfCounts
+  pub counts_now : HalfCounts
   pub moments_before : Option (List ℕ)
   pub moments_now : Option (List ℕ)
 
@@ -85,9 +117,8 @@ pub record RoundSeen (P Q : Type 0) : Type 0 where
 pub record IsRound {P Q : Type 0} (read_faults : P → ℕ) (tells : HalfTells Q)
     (seen : RoundSeen P Q) (result : RoundEnd) : Type 0 where
   pub handed : RewritePumpView P Q
-  pub hands : HandsOut seen.before handed
   pub is_refused : Bool
-  pub refused : is_refused ≡ true → Rose seen.refused_before seen.refused_now
+  pub hands : HandsOut seen.before seen.counts_before is_refused handed seen.counts_now
   pub moment : ℕ
   pub gave : GivesMoment seen.moments_before seen.moments_now moment
   pub ends : TurnsAndEnds read_faults tells moment is_refused handed result seen.now

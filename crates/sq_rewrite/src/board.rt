@@ -1,10 +1,16 @@
 //! What a rewriter's pump and its keepers share, as it lies behind its lock.
-ghost use Rattle.std.specs.Prelude.{◌≡◌, ◌+◌, ◌-◌, ◌++◌, ◌∷◌, ◌<◌, ◌≤◌, [], vec_capacity, vec_len, IfSome, IfNone, IfErr, OnOk, OnErr};
-ghost use Rattle.sq_rewrite.specs.LineViews.{half_proc};
+ghost use Rattle.std.specs.Prelude.{◌≡◌, ◌+◌, ◌-◌, ◌++◌, ◌∷◌, ◌<◌, ◌≤◌, [], vec_capacity, vec_len, IfSome, IfNone, IfOk, IfErr, OnOk, OnErr};
+ghost use Rattle.sq_rewrite.specs.LineViews.{half_proc, placed_proc};
 
 use crate::unread::UnreadHalf;
 use sq_base::ProcNo;
 use std::alloc::Global;
+
+/// That the half of a process was put for a keeper, and was not handed back. Putting one alone makes it, and taking one back has it.
+#[derive(Drop)]
+pub(crate) struct PlacedHalf {
+    proc: ProcNo,
+}
 
 /// The halves of processes that no keeper has taken up so far; how many keepers run or are to run; and the processes of those
 /// that have ended, until the pump has let go of these. There is room for the end of each keeper.
@@ -31,7 +37,8 @@ impl<P: Drop> RewriterBoard<P> {
     }
 
     // Puts a half for a keeper, which is handed back where memory is wanting.
-    pub(crate) fn put(&mut self, half: UnreadHalf<P>) -> Result<(), UnreadHalf<P>>
+    pub(crate) fn put(&mut self, half: UnreadHalf<P>) -> Result<PlacedHalf, UnreadHalf<P>>
+        ensures placed { IfOk result (λ placed. placed_proc placed ≡ half_proc half) }
         ensures back { IfErr result (λ back. back ≡ half) }
         ensures halves { OnOk result
             (self.new.halves.items ≡ self.old.halves.items ++ half ∷ []) }
@@ -46,9 +53,10 @@ impl<P: Drop> RewriterBoard<P> {
         if self.halves.reserve(1).is_err() || self.ends.reserve(more).is_err() {
             return Err(half);
         }
+        let proc = half.proc();
         self.halves.push_reserved(half);
         self.keepers = more;
-        Ok(())
+        Ok(PlacedHalf { proc })
     }
 
     // The half that was put last, for a keeper.
@@ -62,18 +70,24 @@ impl<P: Drop> RewriterBoard<P> {
         self.halves.pop()
     }
 
-    // The half that was put last, for the pump: its keeper is not to run.
-    pub(crate) fn take_back(&mut self) -> Option<UnreadHalf<P>>
-        ensures some { IfSome result
+    // The half that was put last, for the pump, in the place of one that was put: its keeper is not to run. Where none is left, what
+    // was put stays so.
+    pub(crate) fn take_back(&mut self, placed: PlacedHalf) -> Result<UnreadHalf<P>, PlacedHalf>
+        ensures ok { IfOk result
             (λ half. self.old.halves.items ≡ self.new.halves.items ++ half ∷ []) }
-        ensures none { IfNone result (self.old.halves.items ≡ []) }
-        ensures keepers { IfSome result (λ _. self.new.keepers ≡ self.old.keepers - 1) }
-        ensures none_keepers { IfNone result (self.new.keepers ≡ self.old.keepers) }
+        ensures err { OnErr result (self.old.halves.items ≡ []) }
+        ensures placed { IfErr result (λ still. still ≡ placed) }
+        ensures keepers { OnOk result (self.new.keepers ≡ self.old.keepers - 1) }
+        ensures err_keepers { OnErr result (self.new.keepers ≡ self.old.keepers) }
         ensures ends { self.new.ends.items ≡ self.old.ends.items }
     {
-        let half = self.halves.pop()?;
-        self.keepers = self.keepers.saturating_sub(1);
-        Some(half)
+        match self.halves.pop() {
+            None => Err(placed),
+            Some(half) => {
+                self.keepers = self.keepers.saturating_sub(1);
+                Ok(half)
+            }
+        }
     }
 
     // The keeper of this half has ended. It takes no memory.

@@ -23,6 +23,7 @@ mod acts;
 mod board;
 mod calls;
 mod faults;
+mod half_counts;
 mod keeping;
 mod laws;
 mod lines;

@@ -1,10 +1,12 @@
 //! The thread of a rewriter's pump.
-ghost use Rattle.std.specs.Prelude.{◌≡◌, ◌≤◌, true};
+ghost use Rattle.std.specs.Prelude.{◌≡◌, IfOk};
 ghost use Rattle.sq_keeper.specs.Pipes.{half_tells};
-ghost use Rattle.sq_outside.specs.Causes.{HasCause, Rose, count_limit};
-ghost use Rattle.sq_rewrite.specs.PumpRounds.{HandsOut, IsRound};
+ghost use Rattle.sq_rewrite.specs.LineViews.{half_proc, placed_proc};
+ghost use Rattle.sq_rewrite.specs.PumpRounds.{CountsKeeper, HandsOut, IsRound};
 
+use crate::board::PlacedHalf;
 use crate::calls::RewriterCalls;
+use crate::half_counts::HalfCounts;
 use crate::keeping::keep;
 use crate::lock_rewriter::LockRewriter;
 use crate::pump::RewritePump;
@@ -13,13 +15,13 @@ use crate::rewriter_shelf::RewriterShelf;
 use crate::rounds::RoundEnd;
 use crate::unread::UnreadHalf;
 use sq_base::Texts;
-use sq_outside::{Another, Clock, Source, Spawner, raised};
+use sq_outside::{Another, Clock, Source, Spawner};
 use std::alloc::Global;
 use std::sync::Wait;
 use std::thread;
 use std::thread::{Scope, Threads};
 
-// Starts a keeper for a half. Where its thread could not be started, a half is handed back, unless a keeper took it up.
+// Puts a half for a keeper, and starts one. Where its thread could not be started, a half is handed back, unless a keeper took it up.
 fn begin<
     's,
     E,
@@ -34,20 +36,22 @@ fn begin<
     shelf: &'s RewriterShelf<P>,
     clock: &C,
     half: UnreadHalf<P>,
-) -> Result<(), Option<UnreadHalf<P>>> {
-    match shelf.put(rt, half) {
-        Ok(()) => {}
-        Err(half) => return Err(Some(half)),
-    }
+) -> Result<PlacedHalf, UnreadHalf<P>>
+    ensures { IfOk result (λ placed. placed_proc placed ≡ half_proc half) }
+{
+    let placed = shelf.put(rt, half)?;
     let theirs = clock.another();
     let started = scope.spawn(move || keep(rt, alloc, room, shelf, theirs));
     if started.is_ok() {
-        return Ok(());
+        return Ok(placed);
     }
-    Err(shelf.take_back(rt))
+    match shelf.take_back(rt, placed) {
+        Ok(back) => Err(back),
+        Err(placed) => Ok(placed),
+    }
 }
 
-// The keepers of a scope, and how often the thread of one could not be had.
+// The keepers of a scope, how many halves they were given, and how often the thread of one could not be had.
 #[derive(Drop)]
 struct ScopeKeepers<'s, E, R, S: Spawner, C> {
     rt: &'s R,
@@ -56,8 +60,7 @@ struct ScopeKeepers<'s, E, R, S: Spawner, C> {
     room: &'s RewriterRoom,
     shelf: &'s RewriterShelf<S::ChildOut>,
     clock: C,
-    refused: u64,
-    ghost capped: { refused ≤ count_limit },
+    counts: HalfCounts,
 }
 
 impl<
@@ -70,7 +73,7 @@ impl<
     // Starts a keeper for a half. Where its thread cannot be had, a half is handed back, this one or another one, unless a keeper
     // that began before took it up.
     fn start(&mut self, half: UnreadHalf<S::ChildOut>) -> Result<(), UnreadHalf<S::ChildOut>>
-        ensures { HasCause self.old.refused self.new.refused result }
+        ensures { CountsKeeper self.old.counts self.new.counts result }
     {
         let gave = begin(
             self.rt,
@@ -82,9 +85,12 @@ impl<
             half,
         );
         match gave {
-            Ok(()) | Err(None) => Ok(()),
-            Err(Some(back)) => {
-                self.refused = raised(self.refused);
+            Ok(placed) => {
+                self.counts.give(placed);
+                Ok(())
+            }
+            Err(back) => {
+                self.counts.refuse();
                 Err(back)
             }
         }
@@ -93,14 +99,9 @@ impl<
     // Starts a keeper for each half that the pump holds, up to one whose thread cannot be had: the pump holds on to that. Returns
     // whether there is one.
     fn hand_out<K: RewriterCalls>(&mut self, pump: &mut RewritePump<S, K>) -> bool
-        ensures hands { HandsOut pump.old pump.new }
-        ensures refused { result ≡ true → Rose self.old.refused self.new.refused }
+        ensures { HandsOut pump.old self.old.counts result pump.new self.new.counts }
     {
-        let held = pump.readers.len();
-        for _ in 0..held {
-            let Some(half) = pump.reader() else {
-                return false;
-            };
+        while let Some(half) = pump.reader() {
             if let Err(back) = self.start(half) {
                 pump.unread(back);
                 return true;
@@ -120,8 +121,8 @@ impl<
             (record {
               before = pump.old;
               now = pump.new;
-              refused_before = self.old.refused;
-              refused_now = self.new.refused;
+              counts_before = self.old.counts;
+              counts_now = self.new.counts;
               moments_before = T.moments clock.old;
               moments_now = T.moments clock.new;
             }) result }
@@ -158,7 +159,7 @@ fn turns<
         room,
         shelf,
         clock: clock.another(),
-        refused: 0,
+        counts: HalfCounts::new(),
     };
     for _ in rt.forever() {
         let seen = room.changes(rt);

@@ -1,10 +1,9 @@
-use Rattle.std.proofs.Common.{◌≡◌}
-use Rattle.sq_rewrite.specs.PumpRounds.{HandsOut}
+use Rattle.std.proofs.Common.{length}
+use Rattle.sq_rewrite.proofs.HandLaws.{Gives}
 use Rattle.sq_rewrite.proofs.pumping.ScopeKeepers.hand_out.Given as goal
 
--- halves were handed out
-abbrev pub invariant-loop : goal.invariant-loop
-invariant-loop g l = record {
-  hands : HandsOut l.fn.pump l.pump;
-  refused : l.self.refused ≡ l.fn.self.refused;
-}
+abbrev pub invariant-loop-half : goal.invariant-loop-half
+invariant-loop-half g l = Gives l.fn.pump l.fn.self.counts l.pump l.self.counts
+
+abbrev pub decreases-loop-half : goal.decreases-loop-half
+decreases-loop-half g l = length l.pump.readers
