@@ -1,5 +1,6 @@
 mod BoardLaws
 mod EntryLaws
+mod HandLaws
 mod LineLaws
 mod RoundLaws
 mod TakingLaws

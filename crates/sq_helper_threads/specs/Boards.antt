@@ -1,7 +1,12 @@
 -- The posts of keepers.
 use Rattle.std.specs.Prelude.{◌≡◌, ◌+◌, ℕ, ◌==◌, List, ◌++◌, Some, None, true, position, slice_get, slice_set, take, drop}
 use Rattle.std.specs.declared.option.Option.{Option}
+use Rattle.sq_helper_threads.specs.declared.board.PlacedTask.{PlacedTask}
 use Rattle.sq_helper_threads.specs.declared.board.Post.{Post}
+
+-- the process whose half was put for a keeper
+abbrev pub placed_proc : PlacedTask → ℕ
+placed_proc placed = placed.proc
 
 -- the post at this place is of this process, and its keeper has ended
 abbrev pub marked_at : Option ℕ → ℕ → List Post → List Post

@@ -1,6 +1,6 @@
 //! What the pump and the keepers share, as it lies behind its lock.
-ghost use Rattle.std.specs.Prelude.{ℕ, ◌≡◌, ◌++◌, ◌∷◌, ◌==◌, [], false, position, IfSome, IfNone, IfErr, OnOk, OnErr};
-ghost use Rattle.sq_helper_threads.specs.Boards.{TakesEnded, marked, no_end, without};
+ghost use Rattle.std.specs.Prelude.{ℕ, ◌≡◌, ◌++◌, ◌∷◌, ◌==◌, [], false, position, IfSome, IfNone, IfOk, IfErr, OnOk, OnErr};
+ghost use Rattle.sq_helper_threads.specs.Boards.{TakesEnded, marked, no_end, placed_proc, without};
 
 use sq_base::ProcNo;
 use sq_shared::{Ledgers, Refusals};
@@ -36,6 +36,12 @@ impl<P, B: Ledgers> Task<P, B> {
     }
 }
 
+/// That the half of a process was put for a keeper, and was not handed back. Only putting one makes it, and taking one back has it.
+#[derive(Drop)]
+pub(crate) struct PlacedTask {
+    proc: ProcNo,
+}
+
 /// A process that has a keeper or is to have one, and whether that has ended.
 #[derive(Clone, Copy)]
 pub(crate) struct Post {
@@ -64,7 +70,8 @@ impl<P: OfProcess + Drop, B: Ledgers> Board<P, B> {
     }
 
     // Puts a task for a keeper, which is handed back where memory is wanting.
-    pub(crate) fn put(&mut self, task: Task<P, B>) -> Result<(), Task<P, B>>
+    pub(crate) fn put(&mut self, task: Task<P, B>) -> Result<PlacedTask, Task<P, B>>
+        ensures placed { IfOk result (λ placed. placed_proc placed ≡ P.proc_of task.half) }
         ensures task { IfErr result (λ back. back ≡ task) }
         ensures tasks { OnOk result (self.new.tasks.items ≡ self.old.tasks.items ++ task ∷ []) }
         ensures posts { OnOk result
@@ -79,7 +86,7 @@ impl<P: OfProcess + Drop, B: Ledgers> Board<P, B> {
         let proc = task.half.proc();
         self.posts.push_reserved(Post { proc, ended: false });
         self.tasks.push_reserved(task);
-        Ok(())
+        Ok(PlacedTask { proc })
     }
 
     // The task that was put last, for a keeper. Its post stays.
@@ -93,20 +100,22 @@ impl<P: OfProcess + Drop, B: Ledgers> Board<P, B> {
         self.tasks.pop()
     }
 
-    // The task that was put last, for the pump, with its post.
-    pub(crate) fn take_back(&mut self) -> Option<Task<P, B>>
-        ensures some { IfSome result
+    // The task that was put last, for the pump, with its post, in the place of one that was put. Where none is left, what was put stays
+    // so.
+    pub(crate) fn take_back(&mut self, placed: PlacedTask) -> Result<Task<P, B>, PlacedTask>
+        ensures ok { IfOk result
             (λ task. self.old.tasks.items ≡ self.new.tasks.items ++ task ∷ []) }
-        ensures posts { IfSome result
+        ensures posts { IfOk result
             (λ task. self.new.posts.items ≡ without (P.proc_of task.half) self.old.posts.items) }
-        ensures none { IfNone result (self.old.tasks.items ≡ []) }
-        ensures none_posts { IfNone result (self.new.posts ≡ self.old.posts) }
+        ensures err { OnErr result (self.old.tasks.items ≡ []) }
+        ensures err_posts { OnErr result (self.new.posts ≡ self.old.posts) }
+        ensures placed { IfErr result (λ still. still ≡ placed) }
     {
         match self.tasks.pop() {
-            None => None,
+            None => Err(placed),
             Some(task) => {
                 self.unpost(task.half.proc());
-                Some(task)
+                Ok(task)
             }
         }
     }

@@ -16,6 +16,7 @@
 mod asking;
 mod board;
 mod halves;
+mod keeper_counts;
 mod keeper_halves;
 mod keeping;
 mod lines;

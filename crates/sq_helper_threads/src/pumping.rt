@@ -1,19 +1,21 @@
 //! The pump's thread.
-ghost use Rattle.std.specs.Prelude.{◌≡◌, ◌<◌, ◌≤◌, true};
+ghost use Rattle.std.specs.Prelude.{◌≡◌, ◌<◌, ◌≤◌, IfOk};
 ghost use Rattle.std.specs.Thread.{IsSend};
-ghost use Rattle.sq_outside.specs.Causes.{HasCause, Rose, count_limit};
+ghost use Rattle.sq_helper_threads.specs.Boards.{placed_proc};
 ghost use Rattle.sq_helper_threads.specs.Halves.{in_tells};
-ghost use Rattle.sq_helper_threads.specs.PumpRounds.{HandsOut, IsRound};
+ghost use Rattle.sq_helper_threads.specs.KeeperHalves.{out_proc};
+ghost use Rattle.sq_helper_threads.specs.PumpRounds.{CountsKeeper, HandsOut, IsRound, keepers_of};
 ghost use Rattle.sq_helper_threads.specs.Pumps.{pump_tells};
 
-use crate::board::Task;
+use crate::board::{PlacedTask, Task};
+use crate::keeper_counts::KeeperCounts;
 use crate::keeper_halves::ProcOut;
 use crate::pump::ServePump;
-use crate::rounds::PumpRound;
+use crate::rounds::{HandEnd, PumpRound};
 use crate::shelf::Shelf;
 use crate::site::Site;
 use sq_calls::{DeskCalls, HelperCalls};
-use sq_outside::{Another, Clock, Resolver, Source, Spawner, raised};
+use sq_outside::{Another, Clock, Resolver, Source, Spawner};
 use sq_shared::{HelperTypes, Ledgers, LockDesk, Refusals, Room, changes, wait_due};
 use std::alloc::Global;
 use std::sync::Wait;
@@ -53,18 +55,17 @@ impl<
     D: DeskCalls + Send + 's,
     B: Ledgers + Send + Sync + 's,
 > Site<'s, 'r, R, P, D, B> {
-    // Starts a keeper for a task. Where its thread could not be started, a task is handed back, unless a keeper took it up.
+    // Puts a task for a keeper, and starts one. Where its thread could not be started, a task is handed back, unless a keeper took it up.
     fn begin<'e, Q: Resolver + Another + Send + Drop + 's, C: Clock + Another + Send + Drop + 's>(
         &self,
         scope: &'s Scope<'s, &'e ()>,
         resolver: &Q,
         clock: &C,
         task: Task<ProcOut<'r, P, R>, B>,
-    ) -> Result<(), Option<Task<ProcOut<'r, P, R>, B>>> {
-        match self.shelf.board.put(self.rt, task) {
-            Ok(()) => {}
-            Err(task) => return Err(Some(task)),
-        }
+    ) -> Result<PlacedTask, Task<ProcOut<'r, P, R>, B>>
+        ensures { IfOk result (λ placed. placed_proc placed ≡ out_proc task.entry.half) }
+    {
+        let placed = self.shelf.board.put(self.rt, task)?;
         let site = Site {
             rt: self.rt,
             alloc: self.alloc,
@@ -75,14 +76,17 @@ impl<
         let theirs = clock.another();
         let started = scope.spawn(move || site.keep(looker, theirs));
         if started.is_ok() {
-            return Ok(());
+            return Ok(placed);
         }
-        Err(self.shelf.board.take_back(self.rt))
+        match self.shelf.board.take_back(self.rt, placed) {
+            Ok(back) => Err(back),
+            Err(placed) => Ok(placed),
+        }
     }
 }
 
-// The keepers of a scope: with what each is started, the parts of the book that are left for them, and how often one could not be
-// had.
+// The keepers of a scope: with what each is started, the parts of the book that are left for them, how many halves they were given,
+// and how often one could not be had.
 #[derive(Drop)]
 struct HelperKeepers<'s, 'e, 'r, R: Wait, H: HelperTypes, D: DeskCalls, B: Ledgers> {
     scope: &'s Scope<'s, &'e ()>,
@@ -90,8 +94,7 @@ struct HelperKeepers<'s, 'e, 'r, R: Wait, H: HelperTypes, D: DeskCalls, B: Ledge
     resolver: H::Q,
     clock: H::C,
     parts: KeeperParts<B>,
-    unhad: u64,
-    ghost capped: { unhad ≤ count_limit },
+    counts: KeeperCounts,
 }
 
 impl<
@@ -109,7 +112,8 @@ impl<
         &mut self,
         half: ProcOut<'r, <H::S as Spawner>::ChildOut, R>,
     ) -> Result<(), ProcOut<'r, <H::S as Spawner>::ChildOut, R>>
-        ensures { HasCause self.old.unhad self.new.unhad result }
+        ensures { CountsKeeper (keepers_of self.old.counts self.old.parts.spare)
+            (keepers_of self.new.counts self.new.parts.spare) result }
     {
         let HelperKeepers {
             scope,
@@ -117,52 +121,48 @@ impl<
             resolver,
             clock,
             parts,
-            unhad,
+            counts,
         } = self;
         let KeeperParts { refused, spare } = parts;
         if *spare <= 1 {
-            *unhad = raised(*unhad);
+            counts.refuse();
             return Err(half);
         }
         let part = refused.split_off(1, 0);
         match site.begin(*scope, &*resolver, &*clock, Task::new(half, part)) {
-            Ok(()) | Err(None) => {
+            Ok(placed) => {
                 *spare -= 1;
+                counts.give(placed);
                 Ok(())
             }
-            Err(Some(back)) => {
+            Err(back) => {
                 let Task {
                     half,
                     refused: part,
                 } = back;
                 refused.merge(part);
-                *unhad = raised(*unhad);
+                counts.refuse();
                 Err(half)
             }
         }
     }
 
-    // Starts a keeper for each half that the pump holds, up to one for which none can be had: the pump holds on to that. Returns
-    // whether there is one. Another half may come back than the one that was handed out; where there is no memory to hold on to either
-    // kind, none is handed out.
-    fn hand_out<K: HelperCalls>(&mut self, pump: &mut ServePump<'r, H::S, K, R>) -> bool
-        ensures hands { HandsOut pump.old pump.new }
-        ensures refused { result ≡ true → Rose self.old.unhad self.new.unhad }
+    // Starts a keeper for each half that the pump holds, up to one for which none can be had: the pump holds on to that. Another half
+    // may come back than the one that was handed out; where there is no memory to hold on to either kind, none is handed out.
+    fn hand_out<K: HelperCalls>(&mut self, pump: &mut ServePump<'r, H::S, K, R>) -> HandEnd
+        ensures { HandsOut pump.old (keepers_of self.old.counts self.old.parts.spare) result
+            pump.new (keepers_of self.new.counts self.new.parts.spare) }
     {
         if pump.reserve().is_err() {
-            return false;
+            return HandEnd::WantOfMemory;
         }
-        let rt = self.site.rt;
-        for _ in rt.forever() {
-            let Some(half) = pump.next_half() else {
-                return false;
-            };
+        while let Some(half) = pump.next_half() {
             if let Err(back) = self.start(half) {
                 pump.put_back(back);
-                return true;
+                return HandEnd::Refused;
             }
         }
-        unreachable!()
+        HandEnd::All
     }
 
     // Hands out the halves that the pump holds, and then has it make a turn, which may end a process that has waited.
@@ -176,16 +176,16 @@ impl<
             (record {
               before = pump.old;
               now = pump.new;
-              unhad_before = self.old.unhad;
-              unhad_now = self.new.unhad;
+              keepers_before = keepers_of self.old.counts self.old.parts.spare;
+              keepers_now = keepers_of self.new.counts self.new.parts.spare;
               moments_before = T.moments clock.old;
               moments_now = T.moments clock.new;
             }) result }
         ensures later { T.faults clock.old ≤ T.faults clock.new }
     {
-        let is_refused = self.hand_out(pump);
+        let handed = self.hand_out(pump);
         let now = clock.now();
-        pump.turn_and_end(is_refused, now)
+        pump.turn_and_end(handed.is_refusal(), now)
     }
 }
 
@@ -260,7 +260,7 @@ fn run<
         resolver,
         clock: clock.another(),
         parts: keepers,
-        unhad: 0,
+        counts: KeeperCounts::new(),
     };
     turns::<R, H, D, B>(&mut pump, &mut keepers, &mut clock);
 }

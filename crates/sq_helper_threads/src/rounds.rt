@@ -1,9 +1,9 @@
 //! A round of the pump: a turn, and the end of a process that no keeper reads.
-ghost use Rattle.std.specs.Prelude.{◌≡◌, ◌<◌, [], true, false, IfNone, IfSome, position};
+ghost use Rattle.std.specs.Prelude.{◌≡◌, ◌<◌, ◌++◌, ◌∷◌, [], true, false, IfNone, IfSome, position};
 ghost use Rattle.sq_keeper.specs.Waiting.{has_waited};
 ghost use Rattle.sq_helper_threads.specs.Halves.{in_tells};
 ghost use Rattle.sq_helper_threads.specs.Handing.{HandsDeath, desk_step};
-ghost use Rattle.sq_helper_threads.specs.PumpRounds.{EndsRound, EndsWaited, HandsOut, NoHalfWaited, NoneWaited, TakesWaited, TurnsAndEnds};
+ghost use Rattle.sq_helper_threads.specs.PumpRounds.{EndsRound, EndsWaited, NoHalfWaited, NoneWaited, OnlyHalves, PutsBack, TakesWaited, TurnsAndEnds, held_halves, is_refusal};
 ghost use Rattle.sq_helper_threads.specs.Pumps.{pump_tells};
 ghost use Rattle.sq_helper_threads.specs.ReaderViews.{reader_since};
 ghost use Rattle.sq_helper_threads.specs.Turning.{LetsGo};
@@ -33,6 +33,29 @@ pub(crate) enum PumpRound {
     Ended,
 }
 
+/// How it ended that halves were handed out.
+#[derive(Clone, Copy)]
+pub(crate) enum HandEnd {
+    /// No half is left.
+    All,
+    /// For one no keeper could be had.
+    Refused,
+    /// There was no memory to hold on to a half that comes back, and none was handed out.
+    WantOfMemory,
+}
+
+impl HandEnd {
+    // Whether a keeper could not be had.
+    pub(crate) fn is_refusal(self) -> bool
+        ensures { result ≡ is_refusal self }
+    {
+        match self {
+            HandEnd::Refused => true,
+            HandEnd::All | HandEnd::WantOfMemory => false,
+        }
+    }
+}
+
 // The place of the first half that has waited for its keeper for as long as a process may owe an answer.
 fn waited_at<P>(halves: &[Reader<P>], now: Moment) -> Option<usize>
     ensures { result ≡ position (λ half. has_waited (reader_since half) now) halves.now }
@@ -44,11 +67,15 @@ impl<'a, S: Spawner, K: HelperCalls, R: Wait> ServePump<'a, S, K, R>
 where
     S::ChildIn: Drop,
 {
-    // A half that the pump holds, for a keeper.
+    // A half that the pump holds, for a keeper: of a program, while it holds one. None where it holds none.
     pub(crate) fn next_half(&mut self) -> Option<ProcOut<'a, S::ChildOut, R>>
+        ensures some { IfSome result
+            (λ half. held_halves self.old ≡ held_halves self.new ++ half ∷ []) }
+        ensures none { IfNone result ((self.new.readers ≡ []) × (self.new.asking ≡ [])) }
+        ensures none_same { IfNone result (self.new ≡ self.old) }
         ensures room { 0 < self.old.room → 0 < self.new.room }
         ensures asking_room { 0 < self.old.asking_room → 0 < self.new.asking_room }
-        ensures hands { HandsOut self.old self.new }
+        ensures same { OnlyHalves self.old self.new }
     {
         match self.reader() {
             Some(half) => Some(ProcOut::Child(half)),
@@ -62,7 +89,7 @@ where
     // Takes a half back, for which no keeper could be had.
     pub(crate) fn put_back(&mut self, half: ProcOut<'a, S::ChildOut, R>)
         requires { (0 < self.old.room) × (0 < self.old.asking_room) }
-        ensures { HandsOut self.old self.new }
+        ensures { PutsBack half.entry self.old self.new }
     {
         match half {
             ProcOut::Child(half) => self.unread(half),

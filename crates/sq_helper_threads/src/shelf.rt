@@ -1,6 +1,9 @@
 //! The shelf: what the pump and the keepers share. Each call of `LockedBoard` is one hold of its lock, in which it makes the one
 //! call of its name. Nothing is proved here of what lies under the lock.
-use crate::board::{Board, OfProcess, Task};
+ghost use Rattle.std.specs.Prelude.{◌≡◌, IfErr, IfOk};
+ghost use Rattle.sq_helper_threads.specs.Boards.{placed_proc};
+
+use crate::board::{Board, OfProcess, PlacedTask, Task};
 use crate::keeper_halves::ProcOut;
 use sq_base::ProcNo;
 use sq_shared::Ledgers;
@@ -28,7 +31,9 @@ impl<P: OfProcess + Drop, B: Ledgers> LockedBoard<P, B> {
     }
 
     // Puts a task for a keeper, which is handed back where memory is wanting.
-    pub(crate) fn put<R: Wait>(&self, rt: &R, task: Task<P, B>) -> Result<(), Task<P, B>> {
+    pub(crate) fn put<R: Wait>(&self, rt: &R, task: Task<P, B>) -> Result<PlacedTask, Task<P, B>>
+        ensures { IfOk result (λ placed. placed_proc placed ≡ P.proc_of task.half) }
+    {
         self.board.lock(rt).put(task)
     }
 
@@ -37,9 +42,15 @@ impl<P: OfProcess + Drop, B: Ledgers> LockedBoard<P, B> {
         self.board.lock(rt).take()
     }
 
-    // A task, for the pump.
-    pub(crate) fn take_back<R: Wait>(&self, rt: &R) -> Option<Task<P, B>> {
-        self.board.lock(rt).take_back()
+    // A task, for the pump, in the place of one that was put.
+    pub(crate) fn take_back<R: Wait>(
+        &self,
+        rt: &R,
+        placed: PlacedTask,
+    ) -> Result<Task<P, B>, PlacedTask>
+        ensures { IfErr result (λ still. still ≡ placed) }
+    {
+        self.board.lock(rt).take_back(placed)
     }
 
     // The keeper of this half has ended.
