@@ -9,10 +9,11 @@ use crate::times::LinkTimes;
 use mio::net::TcpStream as Trying;
 use mio::{Events, Interest, Poll, Token};
 use sq_base::Addr;
+use sq_outside::DialFault;
 use std::alloc::Global;
-use std::mem;
 use std::net::{IpAddr, Ipv4Addr, Ipv6Addr, Net, SocketAddr, TcpStream};
 use std::time::{Clock, Duration};
+use std::{io, mem};
 
 /// After how many milliseconds the next address is tried, where those before it say nothing (RFC 8305 section 5).
 const NEXT: u64 = 250;
@@ -45,14 +46,27 @@ fn socket_addr(addr: Addr, port: u16) -> SocketAddr {
 #[derive(Drop)]
 enum Came {
     Connected,
-    Failed,
+    Failed(DialFault),
     Nothing,
+}
+
+// Why an address was not reached, by Linux's numbers: it is refused or reset; it takes too long; there is no way to its host or its
+// net, or none is permitted.
+fn fault_of(error: &io::Error) -> DialFault {
+    match error.raw_os_error() {
+        Some(104 | 111) => DialFault::Refused,
+        Some(110) => DialFault::TimedOut,
+        Some(1 | 13 | 99..=101 | 113) => DialFault::Unreachable,
+        Some(12 | 105) => DialFault::OutOfMemory,
+        _ => DialFault::Other,
+    }
 }
 
 fn state_of(stream: &Trying) -> Came {
     match stream.take_error() {
         Ok(None) => {}
-        _ => return Came::Failed,
+        Ok(Some(error)) => return Came::Failed(fault_of(&error)),
+        Err(error) => return Came::Failed(fault_of(&error)),
     }
     match stream.peer_addr() {
         Ok(_) => Came::Connected,
@@ -83,6 +97,9 @@ struct Race<'a> {
     times: &'a LinkTimes,
     poll: Option<Poll>,
     attempts: Vec<Attempt>,
+    // The place of the address that was reached, or of the one that was tried last, and why the last one that failed did.
+    place: Option<usize>,
+    fault: DialFault,
 }
 
 impl<'a> Race<'a> {
@@ -92,21 +109,33 @@ impl<'a> Race<'a> {
         }
     }
 
+    // An address was not reached.
+    fn miss(&mut self, place: usize, now: u64, fault: DialFault) {
+        self.mark(place, now);
+        self.fault = fault;
+    }
+
+    // The address that was reached, or that was tried last.
+    fn addr(&self) -> Option<Addr> {
+        Some(self.known.get(self.place?)?.addr)
+    }
+
     // Begins with one address more. Answers the socket if it is connected at once.
     fn begin<R: Net>(&mut self, rt: &R, goal: Goal, now: u64) -> Option<Trying> {
         let place = goal.place;
         let known = self.known.get(place)?;
+        self.place = Some(place);
         let mut stream = match Trying::connect(rt, socket_addr(known.addr, self.port)) {
             Ok(stream) => stream,
-            Err(_) => {
-                self.mark(place, now);
+            Err(error) => {
+                self.miss(place, now, fault_of(&error));
                 return None;
             }
         };
         match state_of(&stream) {
             Came::Connected => return Some(stream),
-            Came::Failed => {
-                self.mark(place, now);
+            Came::Failed(fault) => {
+                self.miss(place, now, fault);
                 return None;
             }
             Came::Nothing => {}
@@ -140,14 +169,18 @@ impl<'a> Race<'a> {
                 continue;
             }
             match state_of(&attempt.stream) {
-                Came::Connected => won = Some(attempt.stream),
+                Came::Connected => {
+                    self.place = Some(attempt.place);
+                    won = Some(attempt.stream);
+                }
                 Came::Nothing if now.saturating_sub(attempt.begun) < longest => {
                     let place = attempt.place;
                     if self.attempts.push(attempt).is_err() {
-                        self.mark(place, now);
+                        self.miss(place, now, DialFault::OutOfMemory);
                     }
                 }
-                _ => self.mark(attempt.place, now),
+                Came::Nothing => self.miss(attempt.place, now, DialFault::TimedOut),
+                Came::Failed(fault) => self.miss(attempt.place, now, fault),
             }
         }
         if won.is_some() {
@@ -176,7 +209,8 @@ impl<'a> Race<'a> {
 }
 
 /// A socket of the address that answers first. An address is tried 250 ms behind the one before it, or at once where none is under
-/// way. None where all fail, where it is too late for a host, or where nobody wants it any more.
+/// way. A fault where all fail, where it is too late for a host, or where nobody wants it any more. `addr` is the address that was
+/// reached, or that was tried last.
 #[inline(never)]
 pub(crate) fn connect<R: Net + Clock>(
     rt: &R,
@@ -186,33 +220,54 @@ pub(crate) fn connect<R: Net + Clock>(
     times: &LinkTimes,
     begun: u64,
     wanting: &Wanting<'_>,
-) -> Option<TcpStream> {
-    let mut events = Events::with_capacity(alloc, 32).ok()?;
-    let order = order(alloc, found, now(rt))?;
+    addr: &mut Option<Addr>,
+) -> Result<TcpStream, DialFault> {
+    let Some(order) = order(alloc, found, now(rt)) else {
+        return Err(DialFault::OutOfMemory);
+    };
     let mut race = Race {
         known: found.known.as_slice(),
         port,
         times,
         poll: None,
         attempts: Vec::new(alloc),
+        place: None,
+        fault: DialFault::Other,
+    };
+    let stream = run(rt, alloc, &mut race, order.as_slice(), begun, wanting);
+    *addr = race.addr();
+    settled(stream?)
+}
+
+// Runs a race to its end.
+fn run<R: Net + Clock>(
+    rt: &R,
+    alloc: Global,
+    race: &mut Race<'_>,
+    order: &[Goal],
+    begun: u64,
+    wanting: &Wanting<'_>,
+) -> Result<Trying, DialFault> {
+    let Ok(mut events) = Events::with_capacity(alloc, 32) else {
+        return Err(DialFault::OutOfMemory);
     };
     let mut at = 0;
     let mut last = 0;
     for _ in 0..u32::MAX {
         let time = now(rt);
         if let Some(stream) = race.look(alloc, time) {
-            return settled(stream);
+            return Ok(stream);
         }
         let spent = time.saturating_sub(begun);
-        if spent >= millis(times.host) {
+        if spent >= millis(race.times.host) {
             race.lose(time);
-            return None;
+            return Err(DialFault::TimedOut);
         }
         if wanting.is_over() {
-            return None;
+            return Err(wanting.fault());
         }
         if spent >= GIVES_WAY && race.is_late() && wanting.is_crowded() {
-            return None;
+            return Err(DialFault::GaveWay);
         }
         if race.attempts.is_empty() || time.saturating_sub(last) >= NEXT {
             match order.get(at) {
@@ -221,24 +276,26 @@ pub(crate) fn connect<R: Net + Clock>(
                     last = time;
                     if let Some(stream) = race.begin(rt, *goal, time) {
                         race.lose(time);
-                        return settled(stream);
+                        return Ok(stream);
                     }
                     if race.attempts.is_empty() {
                         continue;
                     }
                 }
-                None if race.attempts.is_empty() => return None,
+                None if race.attempts.is_empty() => return Err(race.fault),
                 None => {}
             }
         }
         race.wait(&mut events, TICK);
     }
-    None
+    Err(DialFault::Other)
 }
 
 // The socket, whose calls wait from now on.
-fn settled(stream: Trying) -> Option<TcpStream> {
+fn settled(stream: Trying) -> Result<TcpStream, DialFault> {
     let stream = TcpStream::from(stream);
-    stream.set_nonblocking(false).ok()?;
-    Some(stream)
+    match stream.set_nonblocking(false) {
+        Ok(()) => Ok(stream),
+        Err(_) => Err(DialFault::Other),
+    }
 }

@@ -1,6 +1,7 @@
 //! What the adapters of one net know of one another: whether a client waits for a worker, when a link gave way, whether the server is
 //! stopped, whose client a worker serves, and what wakes the doorkeeper.
 
+use crate::access_log::AccessLog;
 use crate::arrivals::Arrivals;
 use crate::seats::{ClientSlot, ClientSlots};
 use crate::times::LinkTimes;
@@ -32,6 +33,8 @@ pub(crate) struct House {
     /// The accept queue. Who holds its lock for long is a worker that waits for a client.
     pub(crate) queue: Mutex<Arrivals>,
     pub(crate) seats: ClientSlots,
+    // The access log, if there is one.
+    log: Option<Arc<AccessLog>>,
     // Whether the doorkeeper sleeps until a worker has taken a client, and where it sleeps.
     rests: AtomicBool,
     bell: Parker,
@@ -55,7 +58,7 @@ fn since(clock: &impl Clock, time: u64) -> Option<Duration> {
 
 impl House {
     /// Nothing was done yet, at a listener whose socket other servers have, too, or not.
-    pub(crate) fn new(alloc: Global, shared: bool) -> House {
+    pub(crate) fn new(alloc: Global, shared: bool, log: Option<Arc<AccessLog>>) -> House {
         House {
             crowded: AtomicU64::new(0),
             stopped: AtomicU64::new(0),
@@ -66,8 +69,17 @@ impl House {
             workers: AtomicU64::new(0),
             queue: Mutex::new(Arrivals::new(alloc)),
             seats: ClientSlots::new(alloc),
+            log,
             rests: AtomicBool::new(false),
             bell: Parker::new(),
+        }
+    }
+
+    /// The access log, if there is one.
+    pub(crate) fn log(&self) -> Option<&AccessLog> {
+        match &self.log {
+            Some(log) => Some(log),
+            None => None,
         }
     }
 

@@ -9,6 +9,8 @@
 //! A call answers a fault only where the object's count rose, and each error of the system raises it.
 #![tactic(auto)]
 
+mod access_line;
+mod access_log;
 mod again;
 mod arrivals;
 mod children;
@@ -17,6 +19,7 @@ mod doorkeeper;
 mod handed;
 mod hosts;
 mod house;
+mod line_text;
 mod lines;
 mod link_stream;
 mod look_ups;
@@ -34,7 +37,9 @@ mod tcp;
 mod tcp_client;
 mod tcp_server;
 mod times;
+mod turn_log;
 
+pub use access_log::AccessLog;
 pub use children::{RealChildIn, RealChildOut, RealSpawner};
 pub use doorkeeper::KeeperPost;
 pub use hosts::has_one_spelling;

@@ -1,6 +1,8 @@
 //! One socket, as both halves of its link and the doorkeeper see it, and how long a call may wait for it.
 ghost use Rattle.std.specs.Io.{ReadsAtMost, WritesAtMost};
 
+use crate::access_line::LinkState;
+use crate::access_log::AccessLog;
 use crate::house::{House, now};
 use crate::ready::{self, PollFor};
 use crate::times::LinkTimes;
@@ -56,6 +58,40 @@ pub(crate) struct LinkStream {
     between: AtomicBool,
     // Whether the doorkeeper has shut it.
     ended: AtomicBool,
+    // What was counted and seen of it, for the access log.
+    seen: LinkSeen,
+}
+
+// What the threads that carry a link count and see of it. One thread at a time reads, and one writes.
+#[derive(Drop)]
+struct LinkSeen {
+    read: AtomicU64,
+    written: AtomicU64,
+    // Whether the end of its input was read, and whether a limit of time ended it.
+    input_ended: AtomicBool,
+    timed_out: AtomicBool,
+    // Of a client's: whether the input of what was dialled for it last has ended.
+    origin_cut: AtomicBool,
+}
+
+impl LinkSeen {
+    fn new() -> LinkSeen {
+        LinkSeen {
+            read: AtomicU64::new(0),
+            written: AtomicU64::new(0),
+            input_ended: AtomicBool::new(false),
+            timed_out: AtomicBool::new(false),
+            origin_cut: AtomicBool::new(false),
+        }
+    }
+}
+
+// Adds to a count that one thread alone changes.
+fn add(count: &AtomicU64, more: usize) {
+    count.store(
+        count.load(Ordering::Relaxed).saturating_add(more as u64),
+        Ordering::Relaxed,
+    );
 }
 
 /// Whether so long has passed between these two times.
@@ -74,6 +110,7 @@ impl LinkStream {
             piece: AtomicU64::new(0),
             between: AtomicBool::new(true),
             ended: AtomicBool::new(false),
+            seen: LinkSeen::new(),
         }
     }
 
@@ -147,6 +184,47 @@ impl LinkStream {
     /// Whether the first byte of a message is expected.
     pub(crate) fn is_between(&self) -> bool {
         self.between.load(Ordering::SeqCst)
+    }
+}
+
+// What is counted and seen of a link.
+impl LinkStream {
+    // So many bytes were read; none at the end of the input.
+    fn count_read(&self, count: usize) {
+        if count == 0 {
+            self.seen.input_ended.store(true, Ordering::Relaxed);
+        }
+        add(&self.seen.read, count);
+    }
+
+    /// How many bytes were read.
+    pub(crate) fn read_count(&self) -> u64 {
+        self.seen.read.load(Ordering::Relaxed)
+    }
+
+    /// How many bytes were written.
+    pub(crate) fn written_count(&self) -> u64 {
+        self.seen.written.load(Ordering::Relaxed)
+    }
+
+    /// Whether the end of its input was read.
+    pub(crate) fn has_input_ended(&self) -> bool {
+        self.seen.input_ended.load(Ordering::Relaxed)
+    }
+
+    /// Whether a limit of time ended it.
+    pub(crate) fn is_timed_out(&self) -> bool {
+        self.seen.timed_out.load(Ordering::Relaxed)
+    }
+
+    /// Of a client's: whether the input of what was dialled for it last has ended.
+    pub(crate) fn is_origin_cut(&self) -> bool {
+        self.seen.origin_cut.load(Ordering::Relaxed)
+    }
+
+    /// The input of what was dialled for this client has ended, or has not.
+    pub(crate) fn set_origin_cut(&self, cut: bool) {
+        self.seen.origin_cut.store(cut, Ordering::Relaxed);
     }
 }
 
@@ -262,12 +340,21 @@ impl<R: Copy> LinkWatch<R> {
 }
 
 impl<R> LinkWatch<R> {
+    /// The access log, if there is one.
+    pub(crate) fn log(&self) -> Option<&AccessLog> {
+        self.links.house.as_ref()?.log()
+    }
+
     /// Reads from the socket.
     pub(crate) fn read(&self, into: &mut [u8]) -> io::Result<usize>
         ensures { ReadsAtMost result into.new }
     {
         let mut stream: &TcpStream = &self.line.stream;
-        stream.read(into)
+        let read = stream.read(into);
+        if let Ok(count) = &read {
+            self.line.count_read(*count);
+        }
+        read
     }
 
     /// Writes to the socket.
@@ -275,7 +362,11 @@ impl<R> LinkWatch<R> {
         ensures { WritesAtMost result bytes.now }
     {
         let mut stream: &TcpStream = &self.line.stream;
-        stream.write(bytes)
+        let written = stream.write(bytes);
+        if let Ok(count) = &written {
+            add(&self.line.seen.written, *count);
+        }
+        written
     }
 }
 
@@ -289,12 +380,22 @@ impl<R: Clock> LinkWatch<R> {
         if left.is_zero() { None } else { Some(left) }
     }
 
-    // How long a call may wait yet, if it may. What nobody knows to whom it belongs, nobody wakes: it looks around by itself.
+    // How long a call may wait yet, if it may.
     fn left(&self, way: Way) -> Option<Duration> {
         let links = &self.links;
         if links.is_over(&self.rt) || self.line.is_ended() {
             return None;
         }
+        let left = self.left_in_time(way);
+        if left.is_none() {
+            self.line.seen.timed_out.store(true, Ordering::Relaxed);
+        }
+        left
+    }
+
+    // How long the limits of time let it wait. What nobody knows to whom it belongs, nobody wakes: it looks around by itself.
+    fn left_in_time(&self, way: Way) -> Option<Duration> {
+        let links = &self.links;
         let mut left = self.left_of(links.times.silent, self.line.last())?;
         let piece = self.line.piece();
         if way == Way::In && piece > 0 {
@@ -389,5 +490,39 @@ impl<R: Clock> LinkWatch<R> {
     pub(crate) fn expect(&self, between: bool, piece: bool) {
         self.line.set_between(between);
         self.line.set_piece(&self.rt, piece);
+    }
+    /// The time, as it is noted of links.
+    pub(crate) fn now(&self) -> u64 {
+        now(&self.rt)
+    }
+
+    // Whether the server is stopped.
+    fn is_stopped(&self) -> bool {
+        match &self.links.house {
+            Some(house) => house.is_stopped(),
+            None => false,
+        }
+    }
+
+    /// How a client's link stands where a turn came to no good end.
+    pub(crate) fn state(&self) -> LinkState {
+        if self.line.is_ended() {
+            return if self.is_stopped() {
+                LinkState::Shutdown
+            } else {
+                LinkState::GaveWay
+            };
+        }
+        if self.links.is_over(&self.rt) {
+            LinkState::Shutdown
+        } else if self.line.is_timed_out() {
+            LinkState::TimedOut
+        } else if self.line.is_gone() {
+            LinkState::Gone
+        } else if self.line.has_input_ended() {
+            LinkState::Ended
+        } else {
+            LinkState::Stands
+        }
     }
 }

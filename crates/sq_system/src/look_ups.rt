@@ -9,9 +9,10 @@ use crate::house::{House, now};
 use crate::link_stream::LinkStream;
 use crate::names::{asked, hosts_addresses};
 use crate::tcp_server::addr_of;
-use libc::net::{AF_INET, AF_INET6};
+use libc::net::{AF_INET, AF_INET6, EAI_NODATA, EAI_NONAME};
 use os::RawAddr;
 use sq_base::{Addr, Addrs, Text};
+use sq_outside::DialFault;
 use std::alloc::Global;
 use std::fs::File;
 use std::io::Read;
@@ -148,7 +149,8 @@ impl FoundAddrs {
     }
 }
 
-// A look-up of a name that the system makes, and what came of it: the state is 0 while it is under way, then 1.
+// A look-up of a name that the system makes, and what came of it: the state is 0 while it is under way, then 1, and 2 where there is
+// no such name.
 #[derive(Drop)]
 struct LookUp {
     name: Text,
@@ -167,19 +169,38 @@ impl LookUp {
     }
 
     // It is done. Its thread alone has used the lock so far.
-    fn end(&self, addrs: Option<Addrs>) {
+    fn end(&self, found: Result<Addrs, DialFault>) {
+        let state = match &found {
+            Err(DialFault::NameNotFound) => 2,
+            _ => 1,
+        };
         for _ in 0..TRIES {
             if let Some(mut answer) = self.answer.try_lock() {
-                *answer = addrs;
+                *answer = found.ok();
                 break;
             }
         }
-        self.state.store(1, Ordering::SeqCst);
+        self.state.store(state, Ordering::SeqCst);
         self.state.wake_all();
     }
 
+    // Whether it is done, and there is no such name.
+    fn is_nameless(&self) -> bool {
+        self.state.load(Ordering::SeqCst) > 1
+    }
+
     // What came of it, once.
-    fn take(&self) -> Option<Addrs> {
+    fn take(&self) -> Result<Addrs, DialFault> {
+        if self.is_nameless() {
+            return Err(DialFault::NameNotFound);
+        }
+        match self.taken() {
+            Some(addrs) => Ok(addrs),
+            None => Err(DialFault::LookUpFailed),
+        }
+    }
+
+    fn taken(&self) -> Option<Addrs> {
         self.answer.try_lock()?.take()
     }
 }
@@ -194,7 +215,9 @@ struct NameEntry {
     checked: u64,
     // When a rule was answered by them last.
     ruled: u64,
+    // When a look-up failed, and why.
     failed: u64,
+    fault: DialFault,
     // The look-up that is under way, and since when.
     asked: Option<Arc<LookUp>>,
     since: u64,
@@ -233,6 +256,21 @@ impl<'a> Wanting<'a> {
         }
     }
 
+    /// Why nobody wants it any more.
+    pub(crate) fn fault(&self) -> DialFault {
+        match self {
+            Wanting::Dial(Some(client), Some(house)) if client.is_ended() => {
+                if house.is_stopped() {
+                    DialFault::Shutdown
+                } else {
+                    DialFault::GaveWay
+                }
+            }
+            Wanting::Dial(_, _) => DialFault::ClientGone,
+            Wanting::Rule(_) => DialFault::Shutdown,
+        }
+    }
+
     /// Whether a client waits for the worker that dials.
     pub(crate) fn is_crowded(&self) -> bool {
         match self {
@@ -246,7 +284,7 @@ impl<'a> Wanting<'a> {
 #[derive(Drop)]
 enum LookUpNext {
     Found(Arc<FoundAddrs>),
-    Failed,
+    Failed(DialFault),
     Wait(Arc<LookUp>),
     Ask(Arc<LookUp>),
     Pause(u64),
@@ -284,7 +322,7 @@ impl NameEntry {
             }
         }
         if is_within(now, self.failed, FAILED) {
-            return Some(LookUpNext::Failed);
+            return Some(LookUpNext::Failed(self.fault));
         }
         let left = self.ruled.saturating_add(RULE).saturating_sub(now);
         if asker == Asker::Rule && self.is_ruled(now) && left <= PAUSE {
@@ -299,11 +337,11 @@ impl NameEntry {
             return;
         };
         if asked.is_done() {
-            let addrs = asked.take();
+            let found = asked.take();
             let is_new = now.saturating_sub(self.since) < OWN;
             self.asked = None;
             if is_new {
-                self.answer(alloc, addrs, now);
+                self.answer(alloc, found, now);
             }
         }
     }
@@ -322,19 +360,28 @@ impl NameEntry {
             None => new_asked(alloc, &self.name),
         };
         let Some((one, other)) = asked else {
-            return LookUpNext::Failed;
+            return LookUpNext::Failed(DialFault::OutOfMemory);
         };
         self.asked = Some(one);
         self.since = now;
         LookUpNext::Ask(other)
     }
 
+    // A look-up has failed.
+    fn fail(&mut self, now: u64, fault: DialFault) {
+        self.failed = now;
+        self.fault = fault;
+    }
+
     // The system has answered. Where a rule's answer over the addresses before counts still, those alone stay that both answers
     // have; and where there are none, the ones before for some time, since no answer of a rule has seen the others.
-    fn answer(&mut self, alloc: Global, addrs: Option<Addrs>, now: u64) {
-        let Some(addrs) = addrs else {
-            self.failed = now;
-            return;
+    fn answer(&mut self, alloc: Global, found: Result<Addrs, DialFault>, now: u64) {
+        let addrs = match found {
+            Ok(addrs) => addrs,
+            Err(fault) => {
+                self.fail(now, fault);
+                return;
+            }
         };
         let ruled = self.is_ruled(now);
         let mut counts = Some(addrs);
@@ -347,23 +394,28 @@ impl NameEntry {
             }
         }
         let Some(addrs) = counts else {
-            self.failed = now;
+            self.fail(now, DialFault::OutOfMemory);
             return;
         };
         if addrs.is_empty() {
             if ruled && is_within(now, self.first, OLDEST) {
                 self.checked = now;
             } else {
-                self.failed = now;
+                self.fail(now, DialFault::NameNotFound);
             }
             return;
         }
-        let Some(found) = FoundAddrs::of(alloc, addrs.as_slice(), &self.found) else {
-            self.failed = now;
+        self.know(alloc, addrs.as_slice(), now, ruled);
+    }
+
+    // These addresses are those of the name from now on.
+    fn know(&mut self, alloc: Global, addrs: &[Addr], now: u64, ruled: bool) {
+        let Some(found) = FoundAddrs::of(alloc, addrs, &self.found) else {
+            self.fail(now, DialFault::OutOfMemory);
             return;
         };
         let Ok(found) = Arc::new(alloc, found) else {
-            self.failed = now;
+            self.fail(now, DialFault::OutOfMemory);
             return;
         };
         self.found = Some(found);
@@ -445,6 +497,7 @@ impl NameTable {
             checked: 0,
             ruled: 0,
             failed: 0,
+            fault: DialFault::LookUpFailed,
             asked: None,
             since: 0,
         };
@@ -489,12 +542,12 @@ impl LookUps {
             if let Some(mut table) = self.table.try_lock() {
                 return match table.entry(alloc, host.as_bytes()) {
                     Some(entry) => entry.next(alloc, asker, now),
-                    None => LookUpNext::Failed,
+                    None => LookUpNext::Failed(DialFault::OutOfMemory),
                 };
             }
             thread::yield_now();
         }
-        LookUpNext::Failed
+        LookUpNext::Failed(DialFault::LookUpFailed)
     }
 
     // The look-up takes too long, or is not made.
@@ -502,7 +555,7 @@ impl LookUps {
         for _ in 0..TRIES {
             if let Some(mut table) = self.table.try_lock() {
                 if let Some(entry) = table.entry(alloc, host.as_bytes()) {
-                    entry.failed = now;
+                    entry.fail(now, DialFault::LookUpFailed);
                 }
                 return;
             }
@@ -579,13 +632,33 @@ fn addr_in(raw: &RawAddr) -> Option<Addr> {
     }
 }
 
+// Why the system finds no address, by its number of the error.
+fn fault_of(number: isize) -> DialFault {
+    if number == EAI_NONAME as isize || number == EAI_NODATA as isize {
+        DialFault::NameNotFound
+    } else {
+        DialFault::LookUpFailed
+    }
+}
+
 // What the system says of a name.
-fn system_addrs(alloc: Global, name: &[u8]) -> Option<Addrs> {
+fn system_addrs(alloc: Global, name: &[u8]) -> Result<Addrs, DialFault> {
     let mut raw = [RawAddr {
         bytes: [0; 128],
         len: 0,
     }; MOST_ADDRS];
-    let count = usize::try_from(os::lookup_host(name, &mut raw)).ok()?;
+    let answer = os::lookup_host(name, &mut raw);
+    let Ok(count) = usize::try_from(answer) else {
+        return Err(fault_of(answer));
+    };
+    match addrs_in(alloc, &raw, count) {
+        Some(addrs) => Ok(addrs),
+        None => Err(DialFault::LookUpFailed),
+    }
+}
+
+// The addresses that the system has found: so many of these.
+fn addrs_in(alloc: Global, raw: &[RawAddr], count: usize) -> Option<Addrs> {
     let mut addrs = Addrs::new(alloc);
     for raw in raw.get(..count)? {
         addrs.push(addr_in(raw)?).ok()?;
@@ -593,27 +666,37 @@ fn system_addrs(alloc: Global, name: &[u8]) -> Option<Addrs> {
     Some(addrs)
 }
 
-// The addresses of a name: those of the hosts file, or what the system says of exactly this name.
-fn looked_up(alloc: Global, hosts: Option<File>, host: &str) -> Option<Addrs> {
+// The addresses that a hosts file has for a name, or of `localhost` where no file has it; nothing where the system is to be asked.
+fn known_here(alloc: Global, hosts: Option<File>, host: &str) -> Option<Addrs> {
     let text = text_of(alloc, hosts);
     let addrs = hosts_addresses(alloc, host.as_bytes(), text.as_slice()).ok()?;
-    if !addrs.is_empty() {
-        return Some(addrs);
-    }
-    if host == "localhost" {
+    if addrs.is_empty() && host == "localhost" {
         return loopbacks(alloc);
     }
-    let name = asked(alloc, host).ok()?;
-    system_addrs(alloc, name.as_bytes())
+    Some(addrs)
+}
+
+// The addresses of a name: those of the hosts file, or what the system says of exactly this name.
+fn looked_up(alloc: Global, hosts: Option<File>, host: &str) -> Result<Addrs, DialFault> {
+    let Some(addrs) = known_here(alloc, hosts, host) else {
+        return Err(DialFault::OutOfMemory);
+    };
+    if !addrs.is_empty() {
+        return Ok(addrs);
+    }
+    match asked(alloc, host) {
+        Ok(name) => system_addrs(alloc, name.as_bytes()),
+        Err(_) => Err(DialFault::OutOfMemory),
+    }
 }
 
 // What a look-up's thread does.
 fn look(alloc: Global, hosts: Option<File>, look_ups: &LookUps, asked: &LookUp) {
-    let addrs = match str::from_utf8(asked.name.as_bytes()) {
+    let found = match str::from_utf8(asked.name.as_bytes()) {
         Ok(name) => looked_up(alloc, hosts, name),
-        Err(_) => None,
+        Err(_) => Err(DialFault::LookUpFailed),
     };
-    asked.end(addrs);
+    asked.end(found);
     look_ups.running.fetch_sub(1, Ordering::SeqCst);
 }
 
@@ -623,16 +706,16 @@ fn ask<R: Files<File = File> + Threads>(
     alloc: Global,
     look_ups: &Arc<LookUps>,
     asked: &Arc<LookUp>,
-) -> Option<()> {
+) -> Result<(), DialFault> {
     if look_ups.running.fetch_add(1, Ordering::SeqCst) >= MOST_RUNNING {
         look_ups.running.fetch_sub(1, Ordering::SeqCst);
-        return None;
+        return Err(DialFault::LookUpFailed);
     }
     let begun = begin(rt, alloc, look_ups, asked);
     if begun.is_none() {
         look_ups.running.fetch_sub(1, Ordering::SeqCst);
     }
-    begun
+    begun.ok_or(DialFault::NoThread)
 }
 
 fn begin<R: Files<File = File> + Threads>(
@@ -651,7 +734,7 @@ fn begin<R: Files<File = File> + Threads>(
     Some(())
 }
 
-/// The addresses of a host, by what is known or by the system. None where the look-up fails, takes too long, or where nobody wants
+/// The addresses of a host, by what is known or by the system. A fault where the look-up fails, takes too long, or where nobody wants
 /// it any more.
 #[inline(never)]
 pub(crate) fn find<R: Files<File = File> + Clock + Threads + Wait>(
@@ -660,30 +743,30 @@ pub(crate) fn find<R: Files<File = File> + Clock + Threads + Wait>(
     look_ups: &Arc<LookUps>,
     host: &str,
     wanting: &Wanting<'_>,
-) -> Option<Arc<FoundAddrs>> {
+) -> Result<Arc<FoundAddrs>, DialFault> {
     let begun = now(rt);
     for _ in 0..u32::MAX {
         if wanting.is_over() {
-            return None;
+            return Err(wanting.fault());
         }
         let time = now(rt);
         if time.saturating_sub(begun) >= PATIENCE {
             look_ups.fail(alloc, host, time);
-            return None;
+            return Err(DialFault::LookUpFailed);
         }
         match look_ups.next(alloc, host, wanting.asker(), time) {
-            LookUpNext::Found(found) => return Some(found),
-            LookUpNext::Failed => return None,
+            LookUpNext::Found(found) => return Ok(found),
+            LookUpNext::Failed(fault) => return Err(fault),
             LookUpNext::Pause(left) => thread::sleep(rt, Duration::from_millis(left.max(1))),
             LookUpNext::Wait(asked) => asked.wait(rt),
             LookUpNext::Ask(asked) => {
-                if ask(rt, alloc, look_ups, &asked).is_none() {
-                    asked.end(None);
-                    return None;
+                if let Err(fault) = ask(rt, alloc, look_ups, &asked) {
+                    asked.end(Err(fault));
+                    return Err(fault);
                 }
                 asked.wait(rt);
             }
         }
     }
-    None
+    Err(DialFault::Other)
 }

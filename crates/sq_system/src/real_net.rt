@@ -2,10 +2,12 @@
 //! adapters, and relies on them alone.
 ghost use Rattle.std.specs.Prelude.{◌≡◌, ◌≤◌, ◌-◌, ◌^◌, IfOk};
 
+use crate::access_log::AccessLog;
 use crate::again::raise;
 use crate::children::RealSpawner;
 use crate::doorkeeper::KeeperPost;
 use crate::handed::{Linger, handed_socket, is_socket_handed, linger_stated};
+use crate::link_stream::copy_of;
 use crate::messages::{self, tell_linger, tell_shortage};
 use crate::real_clock::RealClock;
 use crate::tcp_client::{RealDialer, RealResolver};
@@ -28,6 +30,8 @@ pub struct RealNet<R> {
     rt: R,
     // Where the doorkeeper of its listener is.
     post: Option<Arc<KeeperPost>>,
+    // The access log, which is on if the environment names its file.
+    log: Option<Arc<AccessLog>>,
     faults: u64,
     ghost capped: { faults ≤ 2 ^ 63 - 1 },
 }
@@ -38,6 +42,7 @@ impl<R> RealNet<R> {
         RealNet {
             rt,
             post: None,
+            log: None,
             faults: 0,
         }
     }
@@ -47,8 +52,14 @@ impl<R> RealNet<R> {
         RealNet {
             rt,
             post: Some(post),
+            log: None,
             faults: 0,
         }
+    }
+
+    /// Its links write to this access log from now on, if the environment names a file for it.
+    pub fn set_log(&mut self, log: Arc<AccessLog>) {
+        self.log = Some(log);
     }
 }
 
@@ -56,6 +67,7 @@ impl<
     R: net::Net<Listener = TcpListener, Stream = TcpStream>
         + Env
         + Files<File = File>
+        + time::Clock
         + Copy
         + Drop,
 > RealNet<R> {
@@ -74,14 +86,21 @@ impl<
         }
     }
 
+    // The access log, if the environment names its file.
+    fn begun_log(&self) -> Option<Arc<AccessLog>> {
+        let log = copy_of(&self.log)?;
+        log.begin(&self.rt).then_some(log)
+    }
+
     // A listener over the socket that the environment hands to the program, or else at this port.
     fn listen(&self, alloc: Global, port: u16, times: LinkTimes) -> io::Result<Listening<R>>
         ensures fresh { IfOk result (λ l. accept_faults l.listener ≡ 0) }
     {
         if is_socket_handed(&self.rt) {
-            return RealListener::over(alloc, self.rt, handed_socket()?, times);
+            let socket = handed_socket()?;
+            return RealListener::over(alloc, self.rt, socket, times, self.begun_log());
         }
-        RealListener::listen(alloc, self.rt, port, times)
+        RealListener::listen_logged(alloc, self.rt, port, times, self.begun_log())
     }
 
     // Opens the listener and what is beside it, and hands it to the doorkeeper.

@@ -4,6 +4,7 @@ ghost use Rattle.std.specs.Str.{IsUtf8};
 ghost use Rattle.sq_outside.specs.Causes.{OpenHasCause};
 ghost use Rattle.sq_outside.specs.Told.{GivesText, IsNotTold, Opens};
 
+use crate::access_log::AccessLog;
 use crate::again::{raise, read_again, write_again};
 use sq_base::Text;
 use sq_outside::{Failed, Files, NoOpen, Sink, Source};
@@ -81,6 +82,8 @@ impl<W: Write> Sink for RealSink<W> {
 #[derive(Drop)]
 pub struct RealFiles<'a, R> {
     rt: &'a R,
+    // The access log, which is opened anew with each file.
+    log: Option<&'a AccessLog>,
     faults: u64,
     ghost capped: { faults ≤ 2 ^ 63 - 1 },
 }
@@ -92,7 +95,22 @@ impl<'a, R> RealFiles<'a, R> {
     pub fn new(rt: &'a R) -> RealFiles<'a, R>
         ensures { system_faults result ≡ 0 }
     {
-        RealFiles { rt, faults: 0 }
+        RealFiles {
+            rt,
+            log: None,
+            faults: 0,
+        }
+    }
+
+    /// The same. Each opening opens this access log anew, too, if it is on: so it is where a server reads its configuration again.
+    pub fn with_log(rt: &'a R, log: &'a AccessLog) -> RealFiles<'a, R>
+        ensures { system_faults result ≡ 0 }
+    {
+        RealFiles {
+            rt,
+            log: Some(log),
+            faults: 0,
+        }
     }
 }
 
@@ -121,6 +139,9 @@ impl<'a, R: rt::Files> Files for RealFiles<'a, R> {
         // Std opens names that are UTF-8 alone: any other name is a fault, and not missing.
         ensures utf8 { (IsUtf8 name.now → ⊥) → result ≡ Err NoOpen.Failed }
     {
+        if let Some(log) = self.log {
+            log.renew();
+        }
         let Ok(path) = str::from_utf8(name.as_bytes()) else {
             raise(&mut self.faults);
             return Err(NoOpen::Failed);

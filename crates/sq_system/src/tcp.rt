@@ -7,7 +7,8 @@ use crate::house::now;
 use crate::link_stream::{LinkShared, LinkStream, LinkWatch, Side, Waited, Way, is_tick};
 use crate::seats::ClientSlot;
 use crate::times::LinkTimes;
-use sq_outside::{Expected, Failed, Out, Sink, Source};
+use crate::turn_log::{TurnLog, note};
+use sq_outside::{Expected, Failed, Observed, Out, Sink, Source};
 use std::alloc::Global;
 use std::io::{self, ErrorKind};
 use std::net::{Shutdown, TcpStream};
@@ -28,6 +29,7 @@ pub struct RealIn<R> {
 pub struct RealOut<R> {
     watch: LinkWatch<R>,
     open: bool,
+    turn: TurnLog,
     faults: u64,
     ghost capped: { faults ≤ 2 ^ 63 - 1 },
 }
@@ -119,6 +121,7 @@ impl<R: Clock + Copy + Drop> RealIn<R> {
         let to = RealOut {
             watch: watch.another()?,
             open: true,
+            turn: TurnLog::new(),
             faults: 0,
         };
         let from = RealIn {
@@ -145,6 +148,18 @@ impl<R> RealIn<R> {
         if let Bond::Origin(slot) = &self.bond {
             slot.put_origin(None);
         }
+    }
+
+    /// Tells the client of this dial, whose log wants it, whether the input from the origin has ended.
+    pub(crate) fn tell_client(&self) {
+        if let (Side::Origin(client), Some(_)) = (&self.watch.side, self.watch.log()) {
+            client.set_origin_cut(self.watch.line.has_input_ended());
+        }
+    }
+
+    /// The socket of this link.
+    pub(crate) fn line(&self) -> &LinkStream {
+        &self.watch.line
     }
 }
 
@@ -252,6 +267,12 @@ impl<R: Clock> Sink for RealOut<R> {
         self.watch.line.leave();
         raise(&mut self.faults);
         Err(Failed)
+    }
+
+    fn observe(&self, what: &Observed) {
+        if let Some(log) = self.watch.log() {
+            note(&self.turn, log, &self.watch, what);
+        }
     }
 }
 

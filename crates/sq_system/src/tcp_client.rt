@@ -1,6 +1,6 @@
 //! What reaches origins by TCP, and what finds the addresses of hosts: the trusted edge. It relies on the
 //! system's look-up of names and on `connect`.
-ghost use Rattle.std.specs.Prelude.{◌≡◌, ◌≤◌, ◌-◌, ◌^◌, None, IfSome};
+ghost use Rattle.std.specs.Prelude.{◌≡◌, ◌≤◌, ◌-◌, ◌^◌, None, IfOk};
 
 use crate::again::raise;
 use crate::dialling::connect;
@@ -13,7 +13,7 @@ use crate::tcp::{RealIn, RealOut};
 use crate::times::LinkTimes;
 use sq_addr::read_addr;
 use sq_base::{Addrs, Text};
-use sq_outside::{Another, Dialer, Failed, LinkUse, LookFault, Resolver};
+use sq_outside::{Another, DialFault, DialSeen, Dialer, Failed, LinkUse, LookFault, Resolver};
 use std::alloc::Global;
 use std::fs::File;
 use std::net::{Net, TcpStream};
@@ -32,6 +32,8 @@ pub struct RealDialer<R> {
     links: Option<Arc<LinkShared>>,
     seat: Option<Arc<ClientSlot>>,
     look_ups: Option<Arc<LookUps>>,
+    // What became of its last dial.
+    last: DialSeen,
     faults: u64,
     ghost capped: { faults ≤ 2 ^ 63 - 1 },
 }
@@ -59,6 +61,7 @@ impl<R> RealDialer<R> {
             links: Arc::new(alloc, links).ok(),
             seat: None,
             look_ups: None,
+            last: DialSeen::nothing(),
             faults: 0,
         }
     }
@@ -70,6 +73,7 @@ impl<R> RealDialer<R> {
             links: Some(links),
             seat: None,
             look_ups: None,
+            last: DialSeen::nothing(),
             faults: 0,
         }
     }
@@ -82,6 +86,7 @@ impl<R: Copy> Another for RealDialer<R> {
             links: copy_of(&self.links),
             seat: None,
             look_ups: copy_of(&self.look_ups),
+            last: DialSeen::nothing(),
             faults: 0,
         }
     }
@@ -146,34 +151,51 @@ impl<
         port: u16,
         client: &Option<Arc<LinkStream>>,
         links: &LinkShared,
-    ) -> Option<TcpStream>
+    ) -> Result<TcpStream, DialFault>
         ensures kept { self.new.faults ≡ self.old.faults }
     {
         let begun = now(&self.rt);
-        let look_ups = self.look_ups(alloc)?;
+        let Some(look_ups) = self.look_ups(alloc) else {
+            return Err(DialFault::OutOfMemory);
+        };
         let wanting = Wanting::Dial(client, &links.house);
         let address = read_addr(host.as_bytes()).ok();
         let found = match address {
-            Some(addr) => look_ups.literal(alloc, host, addr)?,
+            Some(addr) => look_ups
+                .literal(alloc, host, addr)
+                .ok_or(DialFault::OutOfMemory)?,
             None => find(&self.rt, alloc, &look_ups, host, &wanting)?,
         };
-        let stream = connect(&self.rt, alloc, &found, port, &links.times, begun, &wanting);
-        if stream.is_none() && address.is_some() {
+        let mut addr = None;
+        let stream = connect(
+            &self.rt, alloc, &found, port, &links.times, begun, &wanting, &mut addr,
+        );
+        self.last.addr = addr;
+        if stream.is_err() && address.is_some() {
             look_ups.keep_literal(alloc, host, found);
         }
         stream
     }
 
     // Both halves of a link to that host and port, if it is reached.
-    fn reach(&mut self, alloc: Global, host: &Text, port: u16) -> Option<(RealIn<R>, RealOut<R>)>
-        ensures fresh { IfSome result (λ h. (in_faults h.0 ≡ 0) × (out_faults h.1 ≡ 0)) }
+    fn reach(
+        &mut self,
+        alloc: Global,
+        host: &Text,
+        port: u16,
+    ) -> Result<(RealIn<R>, RealOut<R>), DialFault>
+        ensures fresh { IfOk result (λ h. (in_faults h.0 ≡ 0) × (out_faults h.1 ≡ 0)) }
         ensures kept { self.new.faults ≡ self.old.faults }
     {
-        let host = str::from_utf8(host.as_bytes()).ok()?;
+        let Ok(host) = str::from_utf8(host.as_bytes()) else {
+            return Err(DialFault::NameNotFound);
+        };
         if !has_one_spelling(host) {
-            return None;
+            return Err(DialFault::NameNotFound);
         }
-        let links = copy_of(&self.links)?;
+        let Some(links) = copy_of(&self.links) else {
+            return Err(DialFault::OutOfMemory);
+        };
         let slot = self.slot(alloc);
         let client = client_of(&slot);
         // The doorkeeper may end a dial as it ends a link that waits.
@@ -184,7 +206,10 @@ impl<
         if let Some(client) = &client {
             client.leave();
         }
-        RealIn::dialled(alloc, self.rt, stream?, links, slot)
+        match RealIn::dialled(alloc, self.rt, stream?, links, slot) {
+            Some(halves) => Ok(halves),
+            None => Err(DialFault::OutOfMemory),
+        }
     }
 }
 
@@ -212,12 +237,12 @@ impl<
         host: &Text,
         port: u16,
         link_use: LinkUse,
-    ) -> Option<(RealIn<R>, RealOut<R>)>
-        ensures fresh { IfSome result (λ h. (in_faults h.0 ≡ 0) × (out_faults h.1 ≡ 0)) }
+    ) -> Result<(RealIn<R>, RealOut<R>), DialFault>
+        ensures fresh { IfOk result (λ h. (in_faults h.0 ≡ 0) × (out_faults h.1 ≡ 0)) }
         ensures kept { self.new.faults ≡ self.old.faults }
     {
         match link_use {
-            LinkUse::Tunnel if !has_thread(&self.rt) => None,
+            LinkUse::Tunnel if !has_thread(&self.rt) => Err(DialFault::NoThread),
             _ => self.reach(alloc, host, port),
         }
     }
@@ -245,17 +270,28 @@ impl<
         port: u16,
         link_use: LinkUse,
     ) -> Result<(RealIn<R>, RealOut<R>), Failed> {
+        self.last = DialSeen::nothing();
         match self.reach_for(alloc, host, port, link_use) {
-            Some(halves) => Ok(halves),
-            None => {
+            Ok(halves) => Ok(halves),
+            Err(fault) => {
+                self.last.fault = Some(fault);
                 raise(&mut self.faults);
                 Err(Failed)
             }
         }
     }
 
+    fn seen(&self) -> DialSeen {
+        self.last
+    }
+
     fn give_back(&mut self, from: RealIn<R>, to: RealOut<R>) {
         from.end_dial();
+        from.tell_client();
+        let line = from.line();
+        self.last.read = line.read_count();
+        self.last.written = line.written_count();
+        self.last.timed_out = line.is_timed_out();
         if from.has_failed() || to.has_failed() {
             raise(&mut self.faults);
         }
@@ -305,7 +341,7 @@ impl<R: Clock + Files<File = File> + Threads + Wait> RealResolver<R> {
             self.look_ups = Arc::new(alloc, LookUps::new(alloc)).ok();
         }
         let look_ups = self.look_ups.as_ref()?;
-        let found = find(&self.rt, alloc, look_ups, host, &Wanting::Rule(&self.house))?;
+        let found = find(&self.rt, alloc, look_ups, host, &Wanting::Rule(&self.house)).ok()?;
         found.addrs(alloc)
     }
 }

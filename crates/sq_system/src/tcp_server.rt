@@ -4,6 +4,7 @@
 ghost use Rattle.std.specs.Prelude.{◌≡◌, ◌≤◌, ◌-◌, ◌^◌, nat_lt, None, IfOk, IfSome};
 ghost use Rattle.sq_outside.specs.World.{IfLink};
 
+use crate::access_log::AccessLog;
 use crate::again::raise;
 use crate::arrivals::{Arrival, Arrivals};
 use crate::children::RealSpawner;
@@ -119,10 +120,23 @@ impl<R: Net<Listener = TcpListener, Stream = TcpStream> + Copy + Drop> RealListe
     pub fn listen(alloc: Global, rt: R, port: u16, times: LinkTimes) -> io::Result<Listening<R>>
         ensures fresh { IfOk result (λ l. accept_faults l.listener ≡ 0) }
     {
+        RealListener::listen_logged(alloc, rt, port, times, None)
+    }
+
+    /// The same, whose links write to this access log, if there is one.
+    pub(crate) fn listen_logged(
+        alloc: Global,
+        rt: R,
+        port: u16,
+        times: LinkTimes,
+        log: Option<Arc<AccessLog>>,
+    ) -> io::Result<Listening<R>>
+        ensures fresh { IfOk result (λ l. accept_faults l.listener ≡ 0) }
+    {
         let listener = bind(&rt, port)?;
         deepen(&listener);
         let socket = socket_of(&listener, &times)?;
-        let keys = HouseKeys::new(alloc, false, times)?;
+        let keys = HouseKeys::new(alloc, false, times, log)?;
         Ok(RealListener::opened(rt, listener, socket, keys))
     }
 
@@ -133,12 +147,13 @@ impl<R: Net<Listener = TcpListener, Stream = TcpStream> + Copy + Drop> RealListe
         rt: R,
         listener: TcpListener,
         times: LinkTimes,
+        log: Option<Arc<AccessLog>>,
     ) -> io::Result<Listening<R>>
         ensures fresh { IfOk result (λ l. accept_faults l.listener ≡ 0) }
     {
         let tick = times.round;
         let socket = socket_of(&listener, &LinkTimes { tick, ..times })?;
-        let keys = HouseKeys::new(alloc, true, times)?;
+        let keys = HouseKeys::new(alloc, true, times, log)?;
         Ok(RealListener::opened(rt, listener, socket, keys))
     }
 }
@@ -186,8 +201,13 @@ struct HouseKeys {
 }
 
 impl HouseKeys {
-    fn new(alloc: Global, shared: bool, times: LinkTimes) -> io::Result<HouseKeys> {
-        let entrance = Arc::new(alloc, House::new(alloc, shared))?;
+    fn new(
+        alloc: Global,
+        shared: bool,
+        times: LinkTimes,
+        log: Option<Arc<AccessLog>>,
+    ) -> io::Result<HouseKeys> {
+        let entrance = Arc::new(alloc, House::new(alloc, shared, log))?;
         let stopper = Arc::try_clone(&entrance)?;
         let spawner = Arc::try_clone(&entrance)?;
         let house = Some(Arc::try_clone(&entrance)?);
