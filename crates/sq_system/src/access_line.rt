@@ -26,7 +26,7 @@ pub(crate) enum LinkState {
 
 /// Why a turn came to no good end.
 #[derive(Clone, Copy, PartialEq, Eq)]
-pub(crate) enum Cause {
+pub(crate) enum TurnCause {
     /// A cause that a dial may have, too.
     Dial(DialFault),
     /// The origin's reply is none that can be passed on.
@@ -37,22 +37,22 @@ pub(crate) enum Cause {
     Starved,
 }
 
-impl Cause {
+impl TurnCause {
     // The word in the line.
     fn name(self) -> &'static [u8] {
         match self {
-            Cause::Dial(fault) => dial_name(fault),
-            Cause::NotHttp => b"not_http".as_slice(),
-            Cause::CutOff => b"cut_off".as_slice(),
-            Cause::Starved => b"starved".as_slice(),
+            TurnCause::Dial(fault) => dial_name(fault),
+            TurnCause::NotHttp => b"not_http".as_slice(),
+            TurnCause::CutOff => b"cut_off".as_slice(),
+            TurnCause::Starved => b"starved".as_slice(),
         }
     }
 
     // What stands behind the code.
     fn suffix(self) -> &'static [u8] {
         match self {
-            Cause::Dial(DialFault::ClientGone) => b"_ABORTED".as_slice(),
-            Cause::Dial(DialFault::TimedOut) => b"_TIMEDOUT".as_slice(),
+            TurnCause::Dial(DialFault::ClientGone) => b"_ABORTED".as_slice(),
+            TurnCause::Dial(DialFault::TimedOut) => b"_TIMEDOUT".as_slice(),
             _ => b"".as_slice(),
         }
     }
@@ -75,22 +75,22 @@ fn dial_name(fault: DialFault) -> &'static [u8] {
 }
 
 // Why the link of the client failed or ended, if that was not the client's doing.
-fn forced(link: LinkState) -> Option<Cause> {
+fn forced(link: LinkState) -> Option<TurnCause> {
     match link {
-        LinkState::GaveWay => Some(Cause::Dial(DialFault::GaveWay)),
-        LinkState::Shutdown => Some(Cause::Dial(DialFault::Shutdown)),
-        LinkState::TimedOut => Some(Cause::Dial(DialFault::TimedOut)),
+        LinkState::GaveWay => Some(TurnCause::Dial(DialFault::GaveWay)),
+        LinkState::Shutdown => Some(TurnCause::Dial(DialFault::Shutdown)),
+        LinkState::TimedOut => Some(TurnCause::Dial(DialFault::TimedOut)),
         LinkState::Stands | LinkState::Ended | LinkState::Gone => None,
     }
 }
 
 // Why a link to an origin failed, or gave no reply.
-fn origin_cause(dial: &DialSeen, link: LinkState, otherwise: Cause) -> Cause {
+fn origin_cause(dial: &DialSeen, link: LinkState, otherwise: TurnCause) -> TurnCause {
     if dial.timed_out {
-        return Cause::Dial(DialFault::TimedOut);
+        return TurnCause::Dial(DialFault::TimedOut);
     }
     match link {
-        LinkState::Gone => Cause::Dial(DialFault::ClientGone),
+        LinkState::Gone => TurnCause::Dial(DialFault::ClientGone),
         link => match forced(link) {
             Some(cause) => cause,
             None => otherwise,
@@ -99,23 +99,23 @@ fn origin_cause(dial: &DialSeen, link: LinkState, otherwise: Cause) -> Cause {
 }
 
 // Why the origin's reply is none that can be passed on.
-fn no_reply_cause(seen: &TurnSeen, dial: &DialSeen, link: LinkState) -> Cause {
+fn no_reply_cause(seen: &TurnSeen, dial: &DialSeen, link: LinkState) -> TurnCause {
     let otherwise = if dial.read == 0 || seen.is_origin_cut() {
-        Cause::CutOff
+        TurnCause::CutOff
     } else {
-        Cause::NotHttp
+        TurnCause::NotHttp
     };
     origin_cause(dial, link, otherwise)
 }
 
 /// Why this turn came to no good end, if it did not.
-pub(crate) fn cause_of(seen: &TurnSeen, end: TurnEnd, link: LinkState) -> Option<Cause> {
+pub(crate) fn cause_of(seen: &TurnSeen, end: TurnEnd, link: LinkState) -> Option<TurnCause> {
     let dial = match seen.dial() {
         Some(dial) => *dial,
         None => DialSeen::nothing(),
     };
     if let Some(fault) = dial.fault {
-        return Some(Cause::Dial(fault));
+        return Some(TurnCause::Dial(fault));
     }
     if seen.has_no_reply() {
         return Some(no_reply_cause(seen, &dial, link));
@@ -124,17 +124,17 @@ pub(crate) fn cause_of(seen: &TurnSeen, end: TurnEnd, link: LinkState) -> Option
         TurnEnd::Stays | TurnEnd::Closes => seen.own_cause(),
         TurnEnd::Cut => match (forced(link), link) {
             (Some(cause), _) => Some(cause),
-            (None, LinkState::Stands) => Some(Cause::Dial(DialFault::Other)),
-            (None, _) => Some(Cause::Dial(DialFault::ClientGone)),
+            (None, LinkState::Stands) => Some(TurnCause::Dial(DialFault::Other)),
+            (None, _) => Some(TurnCause::Dial(DialFault::ClientGone)),
         },
         TurnEnd::ClientFault => match forced(link) {
             Some(cause) => Some(cause),
-            None => Some(Cause::Dial(DialFault::ClientGone)),
+            None => Some(TurnCause::Dial(DialFault::ClientGone)),
         },
-        TurnEnd::OriginCut => Some(origin_cause(&dial, LinkState::Stands, Cause::CutOff)),
-        TurnEnd::OriginFault => Some(origin_cause(&dial, link, Cause::CutOff)),
-        TurnEnd::Starved => Some(Cause::Starved),
-        TurnEnd::WantOfMemory => Some(Cause::Dial(DialFault::OutOfMemory)),
+        TurnEnd::OriginCut => Some(origin_cause(&dial, LinkState::Stands, TurnCause::CutOff)),
+        TurnEnd::OriginFault => Some(origin_cause(&dial, link, TurnCause::CutOff)),
+        TurnEnd::Starved => Some(TurnCause::Starved),
+        TurnEnd::WantOfMemory => Some(TurnCause::Dial(DialFault::OutOfMemory)),
     }
 }
 
@@ -188,7 +188,7 @@ fn put_beginning(to: &mut Text, seen: &TurnSeen, times: LineTimes) -> Result<(),
 fn put_request(
     to: &mut Text,
     seen: &TurnSeen,
-    cause: Option<Cause>,
+    cause: Option<TurnCause>,
     written: u64,
 ) -> Result<(), WantOfMemory> {
     to.append(code_of(seen))?;
@@ -228,7 +228,11 @@ fn put_way(
 }
 
 // The fields of our own but for the counts.
-fn put_numbers(to: &mut Text, seen: &TurnSeen, cause: Option<Cause>) -> Result<(), WantOfMemory> {
+fn put_numbers(
+    to: &mut Text,
+    seen: &TurnSeen,
+    cause: Option<TurnCause>,
+) -> Result<(), WantOfMemory> {
     put_field(to, b" conn=", seen.conn())?;
     if let Some(check) = seen.check() {
         put_field(to, b" check=", check)?;
@@ -257,7 +261,7 @@ fn put_counts(to: &mut Text, read: u64, dial: Option<&DialSeen>) -> Result<(), W
 pub(crate) fn line_of(
     alloc: Global,
     seen: &TurnSeen,
-    cause: Option<Cause>,
+    cause: Option<TurnCause>,
     times: LineTimes,
 ) -> Result<Text, WantOfMemory> {
     let room = seen.request().len().saturating_add(256);

@@ -3,7 +3,7 @@
 //! A link takes memory for this only where there is a log: once as it is served, and for each request's method and target, which stand
 //! there as the line has them. The thread that carries the link calls all of this, and its lock is never held by another.
 
-use crate::access_line::{Cause, LineTimes, LinkState, cause_of, line_of, request_words};
+use crate::access_line::{LineTimes, LinkState, TurnCause, cause_of, line_of, request_words};
 use crate::access_log::AccessLog;
 use crate::link_stream::{LinkStream, LinkWatch};
 use sq_addr::print_addr;
@@ -179,9 +179,9 @@ impl TurnSeen {
     }
 
     /// Why the proxy replied by itself, where no dial and no rule tells it.
-    pub(crate) fn own_cause(&self) -> Option<Cause> {
+    pub(crate) fn own_cause(&self) -> Option<TurnCause> {
         if self.status == 500 && self.is_own() {
-            Some(Cause::Dial(DialFault::Other))
+            Some(TurnCause::Dial(DialFault::Other))
         } else {
             None
         }
