@@ -168,7 +168,14 @@ impl<
         };
         let mut addr = None;
         let stream = connect(
-            &self.rt, alloc, &found, port, &links.times, begun, &wanting, &mut addr,
+            &self.rt,
+            alloc,
+            &found,
+            port,
+            &links.times,
+            begun,
+            &wanting,
+            &mut addr,
         );
         self.last.addr = addr;
         if stream.is_err() && address.is_some() {
