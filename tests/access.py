@@ -93,8 +93,8 @@ class Origin:
             "/part-of-body": b"HTTP/1.1 200 OK\r\nContent-Length: 100\r\n\r\n" + b"x" * 10,
             "/missing": b"HTTP/1.1 404 Not Found\r\nContent-Length: 0\r\n\r\n",
         }.get(path, b"HTTP/1.1 200 OK\r\nContent-Length: 5\r\n\r\n" + (b"" if head.startswith(b"HEAD") else b"hello"))
-        link.sendall(text)
         self.written[path] = len(text)
+        link.sendall(text)
         if path == "/ssh":
             time.sleep(2)
 
@@ -162,6 +162,12 @@ class Bench:
             link.sendall(text)
             link.shutdown(socket.SHUT_WR)
             return all_of(link)
+
+    def ask(self, text: bytes) -> bytes:
+        """The reply to a request over a connection of its own, whose client stays until it is there."""
+        with self.connect() as link:
+            link.sendall(text)
+            return reply_of(link)
 
     def lines(self) -> list[str]:
         text = self.log.read_text("latin-1") if self.log.exists() else ""
@@ -240,7 +246,8 @@ def outcomes(bench: Bench) -> None:
         "POST", f"TCP_MISS/200 POST http://{at}/post HIER_DIRECT/127.0.0.1 -", len(reply), **{"in": len(text), "up": origin.read["/post"], "down": origin.written["/post"]}
     )
     # Two requests of one connection, with a denied one between them.
-    conn, check = int(line["conn"]), int(line["check"])
+    check = int(line["check"])
+    conns = set()
     with bench.connect() as link:
         for number, (path, expected) in enumerate((
             ("/one", f"TCP_MISS/200 GET http://{at}/one HIER_DIRECT/127.0.0.1 -"),
@@ -250,8 +257,10 @@ def outcomes(bench: Bench) -> None:
             text = bench.head(path)
             link.sendall(text)
             reply = reply_of(link)
-            line = bench.expect(path, expected, len(reply), **{"in": len(text), "conn": conn + 1, "check": check + 1 + number, "rule": 1 if path == "/denied" else 2})
+            line = bench.expect(path, expected, len(reply), **{"in": len(text), "check": check + 1 + number, "rule": 1 if path == "/denied" else 2})
+            conns.add(line["conn"])
             bench.check(f"{path}, an origin's bytes", ("up" in line) == (path != "/denied"), line)
+    bench.same("one connection", len(conns), 1)
     # The end of a connection on which requests came is no line of its own.
     time.sleep(0.3)
     link, size = tunnel(bench)
@@ -260,16 +269,17 @@ def outcomes(bench: Bench) -> None:
     while got < 1000:
         got += len(link.recv(65536))
     link.close()
-    line = bench.expect("a tunnel", f"TCP_TUNNEL/200 CONNECT {at} HIER_DIRECT/127.0.0.1 -", **{"in": size + 1005, "up": 1005, "down": 1005, "conn": conn + 2})
+    line = bench.expect("a tunnel", f"TCP_TUNNEL/200 CONNECT {at} HIER_DIRECT/127.0.0.1 -", **{"in": size + 1005, "up": 1005, "down": 1005})
     bench.check("a tunnel, bytes to the client", int(line["bytes"]) > 1005, line)
     bench.stop(server)
     bench.verify()
     journal = Path("journal").read_text()
+    asked = {check: conn for conn, check in re.findall(r" ask ([0-9]+) .* => check ([0-9]+)\n", journal)}
     taken = re.findall(r" take ([0-9]+) => \S+ \S+ (denied|allowed) rule ([0-9]+)", journal)
-    logged = re.findall(r"^\S+ +\S+ \S+ TCP_(DENIED|MISS|TUNNEL)\S* .* check=([0-9]+) rule=([0-9]+)", bench.log.read_text(), re.M)
+    logged = re.findall(r"^\S+ +\S+ \S+ TCP_(DENIED|MISS|TUNNEL)\S* .* conn=([0-9]+) check=([0-9]+) rule=([0-9]+)", bench.log.read_text(), re.M)
     bench.same(
-        "the checks of the journal", sorted((int(check), rule, code == "DENIED") for code, check, rule in logged),
-        sorted((int(check), rule, verdict == "denied") for check, verdict, rule in taken),
+        "the checks of the journal", sorted((int(check), conn, rule, code == "DENIED") for code, conn, check, rule in logged),
+        sorted((int(check), asked[check], rule, verdict == "denied") for check, verdict, rule in taken),
     )
 
 
@@ -364,7 +374,8 @@ def no_thread(bench: Bench) -> None:
     reply_of(link)
     bench.next_line()
     size = server.value("VmSize") << 10
-    old = resource.prlimit(server.pid, resource.RLIMIT_AS, (size, size))
+    old = resource.getrlimit(resource.RLIMIT_AS)
+    resource.prlimit(server.pid, resource.RLIMIT_AS, (size, old[1]))
     try:
         with bench.connect() as other:
             other.sendall(f"CONNECT {bench.at()} HTTP/1.1\r\nHost: a\r\n\r\n".encode())
@@ -390,7 +401,7 @@ def ends(bench: Bench) -> None:
             full.append(socket.socket())
             full[-1].setblocking(False)
             full[-1].connect_ex(listener.getsockname())
-        reply = bench.send(bench.head("/", host=f"127.0.0.1:{port}"))
+        reply = bench.ask(bench.head("/", host=f"127.0.0.1:{port}"))
         bench.expect("timed out", f"TCP_MISS_TIMEDOUT/502 GET http://127.0.0.1:{port}/ HIER_DIRECT/127.0.0.1 text/plain timed_out", len(reply))
         for one in full:
             one.close()
@@ -398,12 +409,12 @@ def ends(bench: Bench) -> None:
     silent, _ = tunnel(bench)
     unused = bench.connect()
     time.sleep(0.5)
-    bench.send(bench.head("/hello"))
+    bench.ask(bench.head("/hello"))
     bench.expect("gave way without a request", "NONE/000 NONE error:transaction-end-before-headers HIER_NONE/- - gave_way", 0, **{"in": 0})
     bench.expect("the client that waited", f"TCP_MISS/200 GET http://{at}/hello HIER_DIRECT/127.0.0.1 -")
     other, _ = tunnel(bench)
     begun = time.monotonic()
-    bench.send(bench.head("/hello"))
+    bench.ask(bench.head("/hello"))
     bench.check("it waited", time.monotonic() - begun > 5, time.monotonic() - begun)
     bench.expect("gave way", f"TCP_TUNNEL/200 CONNECT {at} HIER_DIRECT/127.0.0.1 - gave_way")
     bench.expect("the other client that waited", f"TCP_MISS/200 GET http://{at}/hello HIER_DIRECT/127.0.0.1 -")
@@ -554,7 +565,7 @@ def with_names(program: str) -> int:
     conf.write_text("nameserver 127.0.0.1\n")
     script = f'ip link set lo up && mount --bind {conf} /etc/resolv.conf && exec "$@"'
     words = [*spaces, "sh", "-c", script, "sh", sys.executable, __file__, "--program", program]
-    if subprocess.run([*words[:-3], "true"], capture_output=True).returncode:
+    if subprocess.run([*spaces, "sh", "-c", script, "sh", "true"], capture_output=True).returncode:
         print("access: left out what needs a name server, since this machine gives no namespaces")
         return 0
     return subprocess.run([*words, *[one.__name__ for one in OWN_CHECKS]]).returncode
