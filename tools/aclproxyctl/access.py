@@ -1,6 +1,8 @@
 """An access log in the native format of Squid's, with fields of our own at the end of a line:
 
     MOMENT MILLISECONDS CLIENT CODE/STATUS BYTES METHOD URL - WAY/ADDRESS TYPE conn=8 check=17 rule=3 cause=refused
+
+Fields that are not known here are passed over.
 """
 
 import os
@@ -17,6 +19,7 @@ NAME = "access.log"
 VARIABLE = "ACLPROXY_ACCESS_LOG"
 FILE = re.compile(r"access\.log(?:\.([0-9]+)(?:\.gz|\.zst)?|\.gz|\.zst)?")
 MOMENT = re.compile(r"([0-9]{1,12})\.([0-9]{3})")
+STATUS = re.compile(r"[0-9]{3}|-")
 TUNNEL = "TCP_TUNNEL"
 # Words of a code that say that a request came to no good end.
 FAILURES = ("ABORTED", "TIMEDOUT")
@@ -52,6 +55,11 @@ class Access:
     def host(self) -> str:
         return host_of(self.url)
 
+    def number(self, name: str) -> int:
+        """The number of a field; 0 where there is none."""
+        value = self.fields.get(name, "")
+        return int(value) if value.isascii() and value.isdigit() else 0
+
 
 def host_of(url: str) -> str:
     """The host of a target, in lower case: of http://HOST:PORT/PATH, or of HOST:PORT."""
@@ -75,7 +83,9 @@ def parse(text: str) -> Optional[Access]:
         return None
     moment = MOMENT.fullmatch(words[0])
     code, slash, status = words[3].partition("/")
-    if moment is None or not slash or not words[1].isascii() or not words[1].isdigit() or not words[4].isdigit() or not re.fullmatch(r"[0-9]{3}|-", status):
+    if moment is None or not slash or STATUS.fullmatch(status) is None:
+        return None
+    if not (words[1].isascii() and words[1].isdigit() and words[4].isascii() and words[4].isdigit()):
         return None
     fields = {}
     for word in words[10:]:
@@ -110,22 +120,29 @@ class Odd:
     names: list[str] = field(default_factory=list)
 
 
-def accesses(files: list[Path], odd: Odd) -> Iterator[Access]:
-    """The lines of these files. A last line without its end is not read: it is still written, or was cut off."""
+def lines_of_access(files: list[Path]) -> Iterator[bytes]:
+    """The lines of these files, without their LF. A last line without its end is not read: it is still written, or was cut off."""
     for path in files:
         with open_plain_or_packed(path) as file:
             try:
                 for line in file:
                     if not line.endswith(b"\n"):
                         break
-                    access = parse(line[:-1].decode("latin-1"))
-                    if access is None:
-                        odd.count += 1
-                        odd.first = odd.first or f"{path}: {line[:100]!r}"
-                        continue
-                    yield access
+                    yield line[:-1]
             except EOFError:
                 raise UserError(CUT, f"{path}: it is compressed, and cut off") from None
+
+
+def accesses(files: list[Path], odd: Odd) -> Iterator[Access]:
+    """The lines of these files that are lines of an access log."""
+    for path in files:
+        for line in lines_of_access([path]):
+            access = parse(line.decode("latin-1"))
+            if access is None:
+                odd.count += 1
+                odd.first = odd.first or f"{path}: {line[:100]!r}"
+            else:
+                yield access
 
 
 def is_access_log(path: Path) -> bool:

@@ -5,6 +5,7 @@ until `serve` opens the name again its lines go to the file with the new name.
 """
 
 import os
+import re
 import time
 from pathlib import Path
 from typing import Callable
@@ -13,6 +14,14 @@ from aclproxyctl.access import FILE, NAME
 
 # Where `serve` did not open the name again, it is ordered to once more after so many seconds.
 PATIENCE = 60.0
+# How `serve` says how many lines could not be written since it said so last.
+DROPPED = re.compile(r"access log: ([0-9,]+) lines? (?:was|were) dropped")
+
+
+def dropped_in(line: str) -> int:
+    """How many lines of the access log could not be written, where a line of `serve` says that."""
+    found = DROPPED.search(line)
+    return int(found[1].replace(",", "")) if found else 0
 
 
 def today() -> int:

@@ -1,17 +1,19 @@
-"""What metrics count of a service, over its runs: in its journals, and in its access logs where the program writes them."""
+"""What is counted of a run as it grows: in its journal, and in its access log where the program writes one."""
 
 import bisect
 from collections import Counter
-from dataclasses import dataclass, field
+from dataclasses import dataclass, field, fields
 from pathlib import Path
-from typing import BinaryIO, Callable, Optional, TypeVar
+from typing import Any, BinaryIO, Callable, Optional, TypeVar
 
 from aclproxyctl.access import TUNNEL, access_files, parse
 from aclproxyctl.errors import UserError
 from aclproxyctl.journal import Reader, open_piece, pieces_of, shown
-from aclproxyctl.status import State
+from aclproxyctl.state import Standing, State
 
 BLOCK = 1 << 20
+# Look-ups of names stand in a journal as helpers of this class.
+LOOKUP = "dst lookup"
 # A label has at most so many values; what comes beyond is counted as `other`.
 MOST_LABELS = 1000
 # The upper bounds of a histogram, in seconds.
@@ -30,6 +32,10 @@ class Histogram:
     def add(self, value: float) -> None:
         self.counts[bisect.bisect_left(BOUNDS, value)] += 1
         self.sum += value
+
+    def join(self, other: "Histogram") -> None:
+        self.counts = [one + more for one, more in zip(self.counts, other.counts)]
+        self.sum += other.sum
 
     def buckets(self) -> list[tuple[str, float]]:
         """As Prometheus has them: each bound with how many values are not above it."""
@@ -82,7 +88,7 @@ class Growing:
 
 @dataclass
 class Counts:
-    """The counts of a service. Those of its runs add up."""
+    """The counts of a run, or of several together."""
 
     runs: int = 0
     entries: int = 0
@@ -97,21 +103,92 @@ class Counts:
     starts: Counter[str] = field(default_factory=Counter)
     failed_starts: Counter[str] = field(default_factory=Counter)
     ends: Counter[str] = field(default_factory=Counter)
-    # Of access logs.
+    # Of access logs. Bytes to and from clients, then to and from origins.
     logged: int = 0
     odd: int = 0
+    lost: int = 0
+    denied: int = 0
+    failed: int = 0
     statuses: Counter[tuple[str, str]] = field(default_factory=Counter)
     causes: Counter[str] = field(default_factory=Counter)
     sent: int = 0
+    received: int = 0
+    sent_on: int = 0
+    fetched: int = 0
     durations: Histogram = field(default_factory=Histogram)
+
+    def join(self, other: "Counts") -> None:
+        """Adds the counts of another run."""
+        for one in fields(self):
+            mine, more = getattr(self, one.name), getattr(other, one.name)
+            if isinstance(mine, int):
+                setattr(self, one.name, mine + more)
+            elif isinstance(mine, Histogram):
+                mine.join(more)
+            elif isinstance(mine, Counter):
+                mine.update(more)
+            else:
+                for name, found in more.items():
+                    mine.setdefault(name, Histogram()).join(found)
+
+    def plain(self) -> dict[str, Any]:
+        """The same as numbers, texts and lists, for a file."""
+        found: dict[str, Any] = {}
+        for one in fields(self):
+            value = getattr(self, one.name)
+            if isinstance(value, Counter):
+                found[one.name] = [[*(key if isinstance(key, tuple) else (key,)), count] for key, count in sorted(value.items())]
+            elif isinstance(value, Histogram):
+                found[one.name] = [*value.counts, value.sum]
+            elif isinstance(value, dict):
+                found[one.name] = {name: [*wait.counts, wait.sum] for name, wait in sorted(value.items())}
+            else:
+                found[one.name] = value
+        return found
+
+    @staticmethod
+    def of_plain(found: dict[str, Any]) -> "Counts":
+        """The counts of such a file. KeyError, TypeError or ValueError where it is none."""
+        counts = Counts()
+        for one in fields(counts):
+            value, there = getattr(counts, one.name), found[one.name]
+            if isinstance(value, Counter):
+                for *key, count in there:
+                    value[key[0] if len(key) == 1 else tuple(key)] = int(count)
+            elif isinstance(value, Histogram):
+                setattr(counts, one.name, histogram_of(there))
+            elif isinstance(value, dict):
+                value.update({name: histogram_of(wait) for name, wait in there.items()})
+            else:
+                setattr(counts, one.name, int(there))
+        return counts
+
+
+def histogram_of(found: list[float]) -> Histogram:
+    if len(found) != len(BOUNDS) + 2:
+        raise ValueError
+    return Histogram([int(count) for count in found[:-1]], float(found[-1]))
+
+
+@dataclass
+class Counted:
+    """What was counted of a run up to a moment: its journal has so many bytes in so many pieces, of which those of a last line without an end."""
+
+    counts: Counts
+    standing: Standing
+    bytes: int = 0
+    pieces: int = 0
+    cut: int = 0
+    has_access: bool = False
+    fault: str = ""
 
 
 class Watched:
     """A run whose journal and access log are read as they grow."""
 
-    def __init__(self, run: Path, counts: Counts) -> None:
+    def __init__(self, run: Path) -> None:
         self.run = run
-        self.counts = counts
+        self.counts = Counts(runs=1)
         self.journal = Growing(run, pieces_of)
         self.access = Growing(run, access_files)
         self.has_access = False
@@ -120,10 +197,12 @@ class Watched:
         # The questions that were sent and have no reply, with their process and moment.
         self.sent: dict[bytes, tuple[bytes, int]] = {}
         self.fault = ""
-        counts.runs += 1
+        # Whether something was counted that its file of counters lacks.
+        self.changed = True
 
     def update(self) -> None:
         """Counts what came since. A journal that cannot be read is left as it is."""
+        before = self.journal.bytes + self.access.bytes
         try:
             while lines := self.journal.lines():
                 for line in lines:
@@ -131,10 +210,19 @@ class Watched:
             while lines := self.access.lines():
                 self.has_access = True
                 for line in lines:
-                    self.access_line(line)
+                    count_access(self.counts, line)
             self.has_access = self.has_access or bool(access_files(self.run))
-        except (UserError, OSError, ValueError, IndexError) as fault:
-            self.fault = str(fault)
+        except (UserError, OSError, ValueError, IndexError, EOFError) as fault:
+            self.fault = str(fault) or type(fault).__name__
+        self.changed = self.changed or self.journal.bytes + self.access.bytes != before
+
+    def counted(self) -> Counted:
+        try:
+            pieces = len(pieces_of(self.run))
+        except UserError:
+            # It was removed.
+            pieces = 0
+        return Counted(self.counts, self.state.standing(), self.journal.bytes, pieces, len(self.journal.rest), self.has_access, self.fault)
 
     def close(self) -> None:
         self.journal.close()
@@ -148,16 +236,17 @@ class Watched:
         else:
             reader.line += 1
         before = reader.before
-        kind, _, rest = line.split(b" ", before + 1)[before + 1].partition(b" ")
+        words = line.split(b" ", before + 3)
+        kind, first = words[before + 1], words[before + 2]
         if kind == b"close":
-            check = state.clients.get(rest.split(b" ", 1)[0])
+            check = state.clients.get(first)
             counts.dropped += check is not None and check in state.waiting
         elif kind in (b"died", b"line"):
-            self.of_process(kind, line, rest.split(b" ", 1)[0])
+            self.of_process(kind, line, first)
         elif kind == b"act" and b" => stop " in line:
             # One that wrote a bad line has ended before, and is none of the helpers any more.
             self.end(line[line.index(b" => stop ") + 9 :])
-        state.line(line, before)
+        state.words(words, line, before)
         counts.entries += 1
         if kind == b"take":
             outcome = line[line.index(b" => ") + 4 :].decode("latin-1").split(" ")[2:]
@@ -174,9 +263,9 @@ class Watched:
                 counts.questions[name] += 1
                 self.sent[answer[2]] = (answer[1], state.last)
         elif kind == b"started":
-            counts.starts[word_of(rest.split(b" ")[1])] += 1
+            counts.starts[word_of(words[before + 3].split(b" ", 1)[0])] += 1
         elif kind == b"startfail":
-            counts.failed_starts[word_of(rest.split(b" ")[1])] += 1
+            counts.failed_starts[word_of(words[before + 3].split(b" ", 1)[0])] += 1
         elif kind == b"reconfigure":
             counts.reconfigurations += 1
 
@@ -207,21 +296,27 @@ class Watched:
             self.counts.ends[word_of(helper)] += 1
             self.sent = {question: sent for question, sent in self.sent.items() if sent[0] != process}
 
-    def access_line(self, line: bytes) -> None:
-        counts = self.counts
-        access = parse(line.decode("latin-1"))
-        if access is None:
-            counts.odd += 1
-            return
-        counts.logged += 1
-        status = f"{access.status // 100}xx" if access.status else "none"
-        count(counts.statuses, (access.code, status), ("other", status))
-        counts.sent += access.bytes
-        if access.failed:
-            cause = access.fields.get("cause", "other")
-            count(counts.causes, cause, "other")
-        if not access.code.startswith(TUNNEL):
-            counts.durations.add(access.elapsed / 1000)
+
+def count_access(counts: Counts, line: bytes) -> None:
+    """A line of an access log."""
+    access = parse(line.decode("latin-1"))
+    if access is None:
+        counts.odd += 1
+        return
+    counts.logged += 1
+    status = f"{access.status // 100}xx" if access.status else "none"
+    count(counts.statuses, (access.code, status), ("other", status))
+    counts.sent += access.bytes
+    counts.received += access.number("in")
+    counts.sent_on += access.number("up")
+    counts.fetched += access.number("down")
+    counts.denied += access.denied
+    if access.failed:
+        counts.failed += 1
+        count(counts.causes, access.fields.get("cause", "other"), "other")
+    if not access.code.startswith(TUNNEL):
+        counts.durations.add(access.elapsed / 1000)
+
 
 def count(counter: "Counter[Key]", key: "Key", other: "Key") -> None:
     """Counts one under its key, or under another where there are too many of them."""

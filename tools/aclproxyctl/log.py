@@ -295,7 +295,7 @@ def tell(text: str) -> None:
 
 def tell_odd(odd: Odd) -> None:
     if odd.count:
-        tell(f"{odd.count:,} lines are none of an access log, the first in {odd.first}")
+        tell(f"1 line is none of an access log: {odd.first}" if odd.count == 1 else f"{odd.count:,} lines are none of an access log, the first in {odd.first}")
 
 
 def lines_of(sources: list[Source], choice: Choice, rule: bool, cuts: list[UserError]) -> Iterator[tuple[int, str]]:

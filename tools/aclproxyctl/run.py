@@ -15,7 +15,9 @@ from aclproxyctl.confs import Conf, read
 from aclproxyctl.disk import Disk
 from aclproxyctl.errors import UserError, of_system
 from aclproxyctl.listening import Port, Wanted, port_for
-from aclproxyctl.metrics import Collector, Server, Told
+from aclproxyctl.ledger import Ledger
+from aclproxyctl.metrics import Collector, Told
+from aclproxyctl.metrics import serve as serve_metrics
 from aclproxyctl.notify import Notifier
 from aclproxyctl.retention import Housekeeper, span_in_words
 from aclproxyctl.running import (
@@ -63,7 +65,7 @@ class Supervisor:
         self.housekeeper = Housekeeper(Path(options.journal), options.limits, options.packing, say)
         self.left = Left(say)
         self.told = Told()
-        self.collector = Collector(Path(options.journal), self.told) if options.metrics is not None else None
+        self.ledger = Ledger(say)
         self.dropped_before = 0
         self.run_bytes = options.run_bytes
         self.selector = selectors.DefaultSelector()
@@ -103,19 +105,18 @@ class Supervisor:
         for number in (signal.SIGHUP, signal.SIGUSR1, signal.SIGTERM, signal.SIGINT):
             signal.signal(number, self.catch)
         self.selector.register(self.wake_out, selectors.EVENT_READ)
-        server = None
-        if self.collector is not None and self.options.metrics is not None:
-            server = Server(self.options.metrics, self.collector)
+        if self.options.metrics is not None:
+            serve_metrics(self.options.metrics, Collector(Path(self.options.journal), self.told, self.ledger))
         try:
             self.current = self.begin()
+            self.ledger.start()
             self.tick = time.monotonic() + 1
             while self.runs():
                 self.turn()
         finally:
             self.left.close()
             self.housekeeper.stop()
-            if server is not None:
-                server.stop()
+            self.ledger.stop()
         return self.status
 
     def begin(self) -> Run:
@@ -125,8 +126,7 @@ class Supervisor:
         except OSError as fault:
             raise of_system(fault, self.options.journal) from None
         say(f"the journal is in {run.folder}; {self.options.limits.said(run.folder)}")
-        if self.collector is not None:
-            self.collector.watch(run.folder)
+        self.ledger.watch(run.folder)
         self.housekeeper.poke()
         most = self.options.limits.most_bytes(run.folder)
         if most is not None:
@@ -302,6 +302,8 @@ class Supervisor:
             run.order(b"")
             run.follow()
         self.left.look()
+        for run in self.runs():
+            self.ledger.lost(run.folder, run.lost)
         self.told.dropped = self.dropped_before + sum(run.errors.dropped_in_all for run in self.runs())
         self.notifier.alive()
         news = self.disk.news()
@@ -372,8 +374,9 @@ class Supervisor:
         self.selector.unregister(run.output)
         status = run.close(self.left)
         self.dropped_before += run.errors.dropped_in_all
-        if self.collector is not None:
-            self.collector.ended(run.folder)
+        self.ledger.lost(run.folder, run.lost)
+        # Where somebody holds the pipe of its journal, more may come.
+        self.ledger.ended(run.folder, run.split.poll() is not None)
         if run is self.coming:
             self.coming = None
             self.watch.ahead, self.watch.suspended = self.clocks

@@ -19,7 +19,7 @@ from pathlib import Path
 from typing import Optional
 
 from aclproxyctl.access import VARIABLE as ACCESS_VARIABLE
-from aclproxyctl.access_log import AccessLog
+from aclproxyctl.access_log import AccessLog, dropped_in
 from aclproxyctl.appended import Appended, Left
 from aclproxyctl.errors import NEEDS, UserError
 from aclproxyctl.helper_errors import VARIABLE, helper_errors
@@ -151,7 +151,9 @@ class Run:
         if split is None:
             raise UserError(NEEDS, "the program split is not found; Debian has it in the package coreutils")
         self.errors = helper_errors(self.folder / HELPER_ERRORS)
-        self.messages = Appended(self.folder / MESSAGES, say, "the server")
+        # How many lines of its access log could not be written, as far as it has said.
+        self.lost = 0
+        self.messages = Appended(self.folder / MESSAGES, self.heard, "the server")
         # Each has a session of its own: Ctrl-C in a terminal is for the supervisor alone.
         self.split = subprocess.Popen(
             [split, f"--lines={options.piece_lines}", "--numeric-suffixes", "--suffix-length=6", "-", str(self.folder / "journal.")],
@@ -198,6 +200,11 @@ class Run:
         except OSError:
             # `status` knows less then.
             pass
+
+    def heard(self, line: str) -> None:
+        """A line that the server has for its administrator."""
+        self.lost += dropped_in(line)
+        say(line)
 
     def order(self, line: bytes) -> None:
         """Hands `serve` an order. One that is gone has none; a pipe that is full holds more than enough."""

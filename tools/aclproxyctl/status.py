@@ -1,100 +1,27 @@
-"""status: how a run stands, by its journal."""
+"""status: how a run stands, by the counters that the service keeps of it, or else by its journal."""
 
-from dataclasses import dataclass, field
 from datetime import datetime, timezone
 from pathlib import Path
-from typing import Iterator, Optional, TextIO
+from typing import Optional, TextIO
 
-from aclproxyctl import words
-from aclproxyctl.errors import DONE, MISSING, VERSION, UserError
-from aclproxyctl.journal import Reader, Tail, lines_of_files, runs_at, shown, whole_pieces
+from aclproxyctl import counters, words
+from aclproxyctl.access import access_files, lines_of_access
+from aclproxyctl.counts import Counted, Counts, count_access
+from aclproxyctl.disk import size_in_words
+from aclproxyctl.errors import DONE, MISSING, UserError
+from aclproxyctl.journal import Tail, lines_of_files, runs_at, whole_pieces
 from aclproxyctl.service import service_of
 from aclproxyctl.sockets import clients_of
+from aclproxyctl.state import state_of
 
-
-@dataclass
-class State:
-    """What a journal comes to: counts, and what is open. All words stay bytes, since a run has millions of lines."""
-
-    entries: int = 0
-    begun: int = 0
-    last: int = 0
-    epoch: int = 1
-    since: int = 0
-    requests: int = 0
-    allowed: int = 0
-    denied: int = 0
-    faults: int = 0
-    ended: int = 0
-    clients: dict[bytes, Optional[bytes]] = field(default_factory=dict)
-    waiting: dict[bytes, bool] = field(default_factory=dict)
-    helpers: dict[bytes, bytes] = field(default_factory=dict)
-
-    def line(self, line: bytes, before: int) -> None:
-        """An entry's line, with so many words before its moment."""
-        words = line.split(b" ", before + 3)
-        kind, first = words[before + 1], words[before + 2]
-        self.entries += 1
-        self.last = int(words[before])
-        if kind == b"step":
-            self.waiting[first] = b" => waits " in line
-        elif kind == b"ask":
-            self.requests += 1
-            check = line[line.rindex(b" => check ") + 10 :]
-            self.clients[first] = check
-            self.waiting[check] = False
-        elif kind == b"take":
-            self.waiting.pop(first, None)
-            outcome = words[before + 3].split(b" ")
-            self.allowed += outcome[3] == b"allowed"
-            self.denied += outcome[3] == b"denied"
-            self.faults += outcome[4] == b"fault"
-        elif kind == b"open":
-            self.clients[first] = None
-        elif kind == b"close":
-            self.waiting.pop(self.clients.pop(first, None) or b"", None)
-        elif kind == b"started":
-            helper, _, process = words[before + 3].partition(b" => proc ")
-            if not process:
-                raise ValueError
-            self.helpers[process] = helper
-        elif kind == b"died" or (kind == b"line" and line.endswith((b" => bad", b" => stray"))):
-            self.end(first)
-        elif kind == b"act":
-            if b" => stop " in line:
-                self.end(line[line.index(b" => stop ") + 9 :])
-        elif kind == b"begin":
-            self.begun = self.since = self.last
-        elif kind == b"reconfigure":
-            self.epoch = int(line[line.rindex(b" => epoch ") + 10 :])
-            self.since = self.last
-
-    def end(self, process: bytes) -> None:
-        if self.helpers.pop(process, None) is not None:
-            self.ended += 1
+Rows = tuple[tuple[str, str], ...]
 
 
 def moment(milliseconds: int) -> str:
     return datetime.fromtimestamp(milliseconds / 1000, timezone.utc).strftime("%Y-%m-%d %H:%M:%S UTC")
 
 
-def state_of(name: str, lines: Iterator[bytes]) -> State:
-    reader, state = Reader(name), State()
-    for line in lines:
-        if reader.line == 0:
-            # The first line says which version it is, or is the first entry of version 1.
-            if reader.entry(line) is None:
-                continue
-        else:
-            reader.line += 1
-        try:
-            state.line(line, reader.before)
-        except (IndexError, ValueError):
-            raise UserError(VERSION, f"{name}: line {reader.line} is no entry") from None
-    return state
-
-
-def rows_of_service(run: Path) -> tuple[tuple[str, str], ...]:
+def rows_of_service(run: Path) -> Rows:
     """What is known of a server that serves now, beside its journal."""
     service = service_of(run)
     if service is None:
@@ -110,35 +37,59 @@ def rows_of_service(run: Path) -> tuple[tuple[str, str], ...]:
     )
 
 
-def rows_of_others(named: Path, run: Path) -> tuple[tuple[str, str], ...]:
+def rows_of_others(named: Path, run: Path) -> Rows:
     """The runs before this one whose connections go on."""
     others = [one.name for one in runs_at(str(named)) if one != run and service_of(one) is not None] if named.is_dir() else []
     return (("before it", f"connections of {words.plural(len(others), 'run')} go on: {', '.join(others)}"),) if others else ()
 
 
-def tell(out: TextIO, name: str, state: State, size: int, pieces: int, cut: int, service: tuple[tuple[str, str], ...]) -> None:
-    waiting = sum(state.waiting.values())
-    by_class: dict[str, int] = {}
-    for word in state.helpers.values():
-        helper = shown(word.decode("latin-1"))
-        by_class[helper] = by_class.get(helper, 0) + 1
-    alive = ", ".join(f"{count} of {name}" for name, count in sorted(by_class.items()))
-    rest = f", and {words.plural(cut, 'byte')} of a line that has no end" if cut else ""
-    rows: tuple[tuple[str, str], ...] = (
+def rows_of_access_log(counts: Counts) -> Rows:
+    """What came of the requests and tunnels that have ended."""
+    failed = f"{counts.failed:,}"
+    if counts.causes:
+        failed += ": " + ", ".join(f"{count:,} {cause}" for cause, count in sorted(counts.causes.items(), key=lambda it: (-it[1], it[0])))
+    rows = [
+        ("ended", f"{words.plural(counts.logged, 'request or tunnel', 'requests and tunnels')}, {counts.denied:,} of them denied"),
+        ("failed", failed),
+        ("bytes", f"{size_in_words(counts.sent)} to clients, {size_in_words(counts.received)} from them"),
+    ]
+    if counts.lost or counts.odd:
+        rows.append(("access log", f"{words.plural(counts.lost, 'line')} could not be written, {words.plural(counts.odd, 'line')} cannot be read"))
+    return tuple(rows)
+
+
+def tell(out: TextIO, name: str, counted: Counted, counted_at: Optional[int], more: Rows) -> None:
+    standing = counted.standing
+    alive = ", ".join(f"{count} of {name}" for name, count in sorted(standing.helpers.items()))
+    rest = f", and {words.plural(counted.cut, 'byte')} of a line that has no end" if counted.cut else ""
+    rows: Rows = (
         ("run", name),
-        ("journal", f"{words.plural(size, 'byte')} in {words.plural(pieces, 'piece')}: {words.plural(state.entries, 'entry', 'entries')}{rest}"),
-        ("since", moment(state.begun)),
-        ("last entry", moment(state.last)),
-        ("configuration", f"number {state.epoch}, since {moment(state.since)}"),
-        ("requests", f"{state.requests:,}: {state.allowed:,} allowed, {state.denied:,} denied, of these {state.faults:,} by a fault of a helper"),
-        ("connections", f"{len(state.clients):,} open"),
-        ("checks", f"{len(state.waiting):,} open, of these {waiting:,} wait for a helper"),
-        ("helpers", f"{len(state.helpers):,} alive{f' ({alive})' if alive else ''}, {state.ended:,} ended"),
+        ("journal", f"{words.plural(counted.bytes, 'byte')} in {words.plural(counted.pieces, 'piece')}: {words.plural(standing.entries, 'entry', 'entries')}{rest}"),
+        ("since", moment(standing.begun)),
+        ("last entry", moment(standing.last)),
+        ("configuration", f"number {standing.epoch}, since {moment(standing.since)}"),
+        ("requests", f"{standing.requests:,}: {standing.allowed:,} allowed, {standing.denied:,} denied, of these {standing.faults:,} by a fault of a helper"),
+        ("connections", f"{standing.connections:,} open"),
+        ("checks", f"{standing.checks:,} open, of these {standing.waiting:,} wait for a helper"),
+        ("helpers", f"{sum(standing.helpers.values()):,} alive{f' ({alive})' if alive else ''}, {standing.ended:,} ended"),
     )
-    if state.entries == 0:
+    if standing.entries == 0:
         rows = rows[:2]
-    for label, text in (*rows, *service):
+    if counted.has_access:
+        rows += rows_of_access_log(counted.counts)
+    if counted_at is not None:
+        rows += (("counted", f"up to {moment(counted_at)}, by the service"),)
+    for label, text in (*rows, *more):
         out.write(f"{label + ':':<15}{text}\n")
+
+
+def read_whole(run: Path, pieces: list[Path], access: list[Path]) -> Counted:
+    """What a run comes to that is read from its beginning to its end."""
+    tail, counts = Tail(), Counts()
+    state = state_of(str(run), lines_of_files(pieces, tail))
+    for line in lines_of_access(access):
+        count_access(counts, line)
+    return Counted(counts, state.standing(), tail.bytes, len(pieces), len(tail.cut), bool(access))
 
 
 def status(out: TextIO, named: str) -> int:
@@ -146,12 +97,14 @@ def status(out: TextIO, named: str) -> int:
     path = Path(named)
     if path.is_dir():
         run = runs_at(named)[-1]
-        pieces = whole_pieces(run)
+        kept = counters.read(run)
+        more = (*rows_of_service(run), *rows_of_others(path, run))
+        if kept is not None:
+            tell(out, str(run), kept.counted, None if kept.whole else kept.moment, more)
+        else:
+            tell(out, str(run), read_whole(run, whole_pieces(run), access_files(run)), None, more)
     elif path.exists():
-        run, pieces = path, [path]
+        tell(out, named, read_whole(path, [path], []), None, ())
     else:
         raise UserError(MISSING, f"{named}: there is no such file or folder")
-    tail = Tail()
-    state = state_of(str(run), lines_of_files(pieces, tail))
-    tell(out, str(run), state, tail.bytes, len(pieces), len(tail.cut), (*rows_of_service(run), *rows_of_others(path, run)))
     return DONE

@@ -18,7 +18,7 @@ from aclproxyctl.access_log import PATIENCE, AccessLog
 from tests.common import LAUNCHER, PROGRAM, InFolder, ctl, needs_program
 from tests.test_log import JOURNAL as OTHER_JOURNAL
 from tests.test_log import LINES as OTHER_LINES
-from tests.test_run import Service, wait_for
+from tests.loopback import Service, wait_for
 
 # A denied request, a page, a slow page, a refused connection, a tunnel with a tag, a client that went away, and a request that
 # was refused before it was judged. Written by hand.
@@ -146,7 +146,7 @@ class Logged(InFolder):
         """They are counted. The last line without its end may still be written."""
         ended = ctl("log", self.file("access.log", "\n".join([LINES[0], "hello", LINES[1], LINES[2]])))
         self.assertEqual((ended.status, ended.out.splitlines()), (0, LINES[:2]))
-        self.assertRegex(ended.err, r"^aclproxyctl: 1 lines are none of an access log, the first in .*access\.log: b'hello\\n'\n$")
+        self.assertRegex(ended.err, r"^aclproxyctl: 1 line is none of an access log: .*access\.log: b'hello'\n$")
 
     def test_runs_without_an_access_log(self) -> None:
         """Their lines come from the journal, which cannot say what failed."""

@@ -15,7 +15,7 @@ from aclproxyctl.journal import pieces_of
 from aclproxyctl.listening import Port
 from aclproxyctl.run import Options, Run
 from tests.common import PROGRAM, InFolder, needs_program
-from tests.test_run import TIME, Service, free_port, wait_for
+from tests.loopback import TIME, Service, free_port, wait_for
 
 
 class Lines(InFolder):

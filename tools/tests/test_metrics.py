@@ -18,7 +18,7 @@ from tests.common import TOP, InFolder, ctl, needs_program
 from tests.test_access import JOURNAL as LOGGED_JOURNAL
 from tests.test_access import LINES
 from tests.test_log import JOURNAL
-from tests.test_run import Service, free_port, wait_for
+from tests.loopback import Service, free_port, wait_for
 
 DEBIAN = "/usr/lib/python3/dist-packages"
 if importlib.util.find_spec("prometheus_client") is None and Path(DEBIAN, "prometheus_client").is_dir():
@@ -55,11 +55,10 @@ HELPERS = """journal 2
 class Counted(InFolder):
     def counted(self, journal: str) -> tuple[Counts, Watched]:
         self.file("run/journal.000000", journal)
-        counts = Counts()
-        watched = Watched(self.folder / "run", counts)
+        watched = Watched(self.folder / "run")
         watched.update()
         watched.close()
-        return counts, watched
+        return watched.counts, watched
 
     def test_requests(self) -> None:
         counts, watched = self.counted(JOURNAL)
@@ -87,10 +86,10 @@ class Counted(InFolder):
     def test_what_comes_later(self) -> None:
         """In the same piece, in the middle of a line, in a further piece and in one that was compressed."""
         lines = JOURNAL.splitlines(True)
-        counts = Counts()
         path = self.folder / "run" / "journal.000000"
         self.file("run/journal.000000", "".join(lines[:4]) + lines[4][:5])
-        watched = Watched(self.folder / "run", counts)
+        watched = Watched(self.folder / "run")
+        counts = watched.counts
         watched.update()
         self.assertEqual(counts.entries, 3)
         with open(path, "a") as file:

@@ -17,7 +17,7 @@ from aclproxyctl.packed import pack
 from aclproxyctl.retention import Housekeeper, Limits, size, span, span_in_words, sweep
 from tests.common import InFolder, ctl, needs_program
 from tests.test_log import CONF, JOURNAL, LINES
-from tests.test_run import Service, wait_for
+from tests.loopback import Service, wait_for
 
 # 2026-12-01 12:00:00 UTC.
 NOW = 1796126400.0

@@ -6,7 +6,7 @@ import subprocess
 import sys
 
 from tests.common import TOP, InFolder, needs_program
-from tests.test_run import Service
+from tests.loopback import Service
 
 # Targets that a client may send, and some that only other bytes could make: each has what a shell or a reply takes apart.
 TAILS = [

@@ -1,6 +1,7 @@
 """Clients at a port, by the system's table, and what status says of them."""
 
 import contextlib
+import re
 import signal
 import socket
 import unittest
@@ -10,7 +11,7 @@ from aclproxyctl.service import Service as Serving
 from aclproxyctl.service import service_of
 from aclproxyctl.sockets import Clients, add_table, clients_of
 from tests.common import InFolder, ctl, needs_program
-from tests.test_run import TIME, Service
+from tests.loopback import TIME, Service, wait_for
 
 # Port 3128 is 0C38. One listening socket with two connections in its queue (2 of 3 that are open), one connection of another
 # port, one on the other side of which 3128 stands, and one that is being closed.
@@ -74,10 +75,9 @@ class Status(InFolder):
                 self.assertIn(b" 200 ", tunnel.recv(1000))
             for _ in range(3):
                 links.enter_context(socket.create_connection(("127.0.0.1", service.port), TIME))
-            self.assertRegex(
-                ctl("status", str(service.journal)).out,
-                r"(?m)^workers: +2, of these 2 in use\nclients: +5 connected at port [0-9]+; 3 wait for a worker, of these [0-3] in the accept queue$",
-            )
+            # What is being accepted just then counts at the next look.
+            wanted = r"(?m)^workers: +2, of these 2 in use\nclients: +5 connected at port [0-9]+; 3 wait for a worker, of these [0-3] in the accept queue$"
+            wait_for(lambda: re.search(wanted, ctl("status", str(service.journal)).out) is not None)
             (run,) = service.runs()
             self.assertEqual((run / "service.json").stat().st_mode & 0o777, 0o600)
             links.close()

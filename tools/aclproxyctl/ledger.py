@@ -1,0 +1,106 @@
+"""What a service counts of its runs. Each run's counts are kept in a file beside its journal, and those of all runs add up."""
+
+import threading
+import time
+from pathlib import Path
+from typing import Callable, Optional
+
+from aclproxyctl import counters
+from aclproxyctl.counts import Counted, Counts, Watched
+
+# So often journals and access logs are read on, and the files of counters are written.
+PAUSE = 1.0
+
+
+class Ledger:
+    """The runs that are read on, and the counts of those that have ended."""
+
+    def __init__(self, say: Callable[[str], object] = lambda text: None, keep: bool = True) -> None:
+        self.say = say
+        # Whether files of counters are written.
+        self.keep = keep
+        self.since = int(time.time() * 1000)
+        self.over = Counts()
+        # The one that began last, and runs that began before it and have not ended.
+        self.watched: Optional[Watched] = None
+        self.before: list[Watched] = []
+        self.complaint = ""
+        self.lock = threading.Lock()
+        self.ended_all = threading.Event()
+
+    def all(self) -> list[Watched]:
+        return [*self.before, *([self.watched] if self.watched is not None else [])]
+
+    def watch(self, run: Path) -> None:
+        """A run begins; the one before is read on until it ends."""
+        with self.lock:
+            self.before = self.all()
+            self.watched = Watched(run)
+
+    def ended(self, run: Path, whole: bool = True) -> None:
+        """A run has ended; what it has left is counted, and nothing more comes where that is whole. Where it is the last one to have begun, the one before is the last from now on."""
+        with self.lock:
+            for one in [one for one in self.all() if one.run == run]:
+                self.count(one, whole)
+                one.close()
+                if one is not self.watched:
+                    self.before.remove(one)
+                    self.over.join(one.counts)
+                elif self.before:
+                    self.watched = self.before.pop()
+                    self.over.join(one.counts)
+
+    def lost(self, run: Path, lines: int) -> None:
+        """So many lines of a run's access log could not be written in all."""
+        with self.lock:
+            for one in self.all():
+                if one.run == run and one.counts.lost != lines:
+                    one.counts.lost = lines
+                    one.changed = True
+
+    def update(self) -> None:
+        with self.lock:
+            for one in self.all():
+                self.count(one, False)
+
+    def count(self, one: Watched, whole: bool) -> None:
+        """Reads a run on, and keeps its counts where they have changed, or are whole now."""
+        one.update()
+        if not self.keep or not (one.changed or whole) or not one.run.is_dir():
+            return
+        try:
+            counters.write(one.run, one.counted(), whole)
+            one.changed = False
+            self.complaint = ""
+        except OSError as fault:
+            # Once, and not each second.
+            if str(fault) != self.complaint:
+                self.complaint = str(fault)
+                self.say(f"the counters cannot be kept: {fault}")
+
+    def found(self) -> tuple[Optional[Path], list[Counted], Counts]:
+        """What is counted by now: the run that began last, each run that has not ended, that one as the last, and the counts of all."""
+        with self.lock:
+            for one in self.all():
+                one.update()
+            total = Counts()
+            total.join(self.over)
+            for one in self.all():
+                total.join(one.counts)
+            return self.watched.run if self.watched is not None else None, [one.counted() for one in self.all()], total
+
+    def work(self) -> None:
+        """Counts, until the service ends."""
+        while not self.ended_all.wait(PAUSE):
+            self.update()
+
+    def start(self) -> None:
+        threading.Thread(target=self.work, name="counts", daemon=True).start()
+
+    def stop(self) -> None:
+        self.ended_all.set()
+
+    def close(self) -> None:
+        with self.lock:
+            for one in self.all():
+                one.close()
