@@ -9,7 +9,7 @@ import sys
 import time
 from typing import NoReturn, Optional, Sequence
 
-from aclproxyctl import check, explain, lists, log, metrics, report, retention, run, squid, status, usage, verify
+from aclproxyctl import check, explain, explained, lists, log, metrics, report, retention, run, squid, status, usage, verify
 from aclproxyctl.errors import INTERRUPTED, SYSTEM, USAGE, UserError, of_system
 from aclproxyctl.program import find
 from aclproxyctl.running import say
@@ -93,10 +93,11 @@ def parser() -> Parser:
     one.add_argument("--workers", type=whole(1, 4096), metavar="W", help="the workers that serve will be started with")
 
     one = commands.add_parser("explain", help="what comes of one request, and by which lines")
-    one.add_argument("conf", metavar="CONF")
-    one.add_argument("client", metavar="CLIENT", help="its address")
-    one.add_argument("method", metavar="METHOD")
-    one.add_argument("url", metavar="URL", help="http://HOST/PATH; of CONNECT, HOST:PORT")
+    one.add_argument("conf", metavar="CONF", help="the configuration; with --check, a journal's folder, a run of it, or an access log")
+    one.add_argument("client", metavar="CLIENT", nargs="?", help="its address")
+    one.add_argument("method", metavar="METHOD", nargs="?")
+    one.add_argument("url", metavar="URL", nargs="?", help="http://HOST/PATH; of CONNECT, HOST:PORT")
+    one.add_argument("--check", type=whole(1, (1 << 63) - 1), metavar="N", help="the request that was judged as this check, as the access log names it")
     one.add_argument("--at", metavar="TIME", help="when it is asked; now, if it is not stated")
     one.add_argument("--header", action="append", default=[], metavar="'NAME: VALUE'", help="a header field; may be repeated")
     one.add_argument("--connections", type=whole(1, 1000), default=1, metavar="N", help="how many connections the client has open, this one counted (1)")
@@ -214,6 +215,12 @@ def run_command(words: argparse.Namespace) -> int:
             raise UserError(USAGE, f"--{'output' if words.output else 'accept'} goes with --squid")
         return check.check(out, find(words.program), words.conf, words.utc_offset, words.workers, words.quiet)
     if words.command == "explain":
+        if words.check is not None:
+            if words.client or words.at or words.header or words.ask:
+                raise UserError(USAGE, "explain --check N JOURNAL-OR-DIR has no further words: the journal has the request")
+            return explained.explain_check(out, find(words.program), words.conf, words.check)
+        if words.url is None:
+            raise UserError(USAGE, "explain wants CONF CLIENT METHOD URL, or --check N JOURNAL-OR-DIR")
         return explain.explain(out, find(words.program), words.conf, asked_of(words), words.ask)
     if words.command == "run":
         return run.run(

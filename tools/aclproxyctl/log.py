@@ -200,18 +200,18 @@ class Decisions:
         self.reader = Reader(name, frozenset(("take", "reconfigure")))
         self.lines = lines
         self.rules = Rules(first)
-        # Those that were taken, and whose requests have not ended.
-        self.taken: dict[str, Request] = {}
+        # The epoch and the outcome of those that were taken, and whose requests have not ended.
+        self.taken: dict[str, tuple[int, tuple[str, ...]]] = {}
 
-    def text(self, check: str) -> str:
-        """The rule that decided a check, or what else did; `-` where the journal does not have it."""
+    def take(self, check: str) -> Optional[tuple[int, tuple[str, ...]]]:
+        """The epoch and the outcome of a check, which is asked for once. None where the journal does not have it."""
         pauses = 0
         while check not in self.taken:
             line = next(self.lines, None)
             if line == b"":
                 pauses += 1
             if line is None or pauses > MOST_PAUSES:
-                return "-"
+                return None
             if line == b"":
                 continue
             entry = self.reader.entry(line)
@@ -220,8 +220,13 @@ class Decisions:
             if entry.event[0] == "reconfigure":
                 self.rules.add(int(entry.answer[1]), unescape(entry.event[1]))
             else:
-                self.taken[entry.event[1]] = Request(0, "", "", "", epoch=int(entry.answer[1]), outcome=entry.answer[2:])
-        return with_rule(self.taken.pop(check), self.rules)
+                self.taken[entry.event[1]] = (int(entry.answer[1]), tuple(map(sys.intern, entry.answer[2:])))
+        return self.taken.pop(check)
+
+    def text(self, check: str) -> str:
+        """The rule that decided a check, or what else did; `-` where the journal does not have it."""
+        found = self.take(check)
+        return with_rule(Request(0, "", "", "", epoch=found[0], outcome=list(found[1])), self.rules) if found is not None else "-"
 
 
 def text_of_access(access: Access, decisions: Optional[Decisions]) -> str:
@@ -261,7 +266,11 @@ def sources_of(named: str, conf: Optional[str], since: Optional[int]) -> list[So
         runs = since_then(runs_at(named), since)
         return [Source(str(run), whole_pieces(run), given if given is not None else kept_conf(run), access_files(run), started(run)) for run in runs]
     if path.exists():
-        return [Source(named, [], given, [path]) if path.is_file() and is_access_log(path) else Source(named, [path], given)]
+        if path.is_file() and is_access_log(path):
+            # The journal beside it, if it stands where it was written.
+            run = path.absolute().parent
+            return [Source(named, whole_pieces(run), given if given is not None else kept_conf(run), [path])]
+        return [Source(named, [path], given)]
     raise UserError(MISSING, f"{named}: there is no such file or folder")
 
 
@@ -331,8 +340,12 @@ def lines_of_source(source: Source, choice: Choice, rule: bool, cuts: list[UserE
     tail = Tail()
     if source.access:
         decisions = Decisions(source.name, lines_of_files(source.pieces, tail), source.first) if rule else None
-        for access in chosen_accesses(source, choice, odd):
-            yield access.moment, text_of_access(access, decisions)
+        for access in accesses(source.access, odd):
+            if choice.has_access(access):
+                yield access.moment, text_of_access(access, decisions)
+            elif decisions is not None and "check" in access.fields:
+                # Its decision is not kept, however few lines are chosen.
+                decisions.take(access.fields["check"])
         return
     if choice.needs_access_log:
         return
@@ -403,11 +416,16 @@ def follow_accesses(out: TextIO, path: Path, choice: Choice, rule: bool, given: 
         if line is None:
             out.flush()
             continue
-        if run not in known and rule and path.is_dir():
-            known[run] = Decisions(str(run), lines_so_far(run), given if given is not None else kept_conf(run))
+        folder = run if path.is_dir() else path.absolute().parent
+        if run not in known and rule:
+            # Without a journal beside it there is nothing to wait for.
+            journal = lines_so_far(folder) if pieces_of(folder) else iter(())
+            known[run] = Decisions(str(run), journal, given if given is not None else kept_conf(folder))
         access = parse(line.decode("latin-1"))
         if access is not None and choice.has_access(access):
             out.write(text_of_access(access, known.get(run)))
+        elif access is not None and rule and "check" in access.fields:
+            known[run].take(access.fields["check"])
     return DONE
 
 
