@@ -21,13 +21,15 @@ FILE = re.compile(r"access\.log(?:\.([0-9]+)(?:\.gz|\.zst)?|\.gz|\.zst)?")
 MOMENT = re.compile(r"([0-9]{1,12})\.([0-9]{3})")
 STATUS = re.compile(r"[0-9]{3}|-")
 TUNNEL = "TCP_TUNNEL"
+# What stands for the target of a connection that ended without a request.
+SILENT = "error:transaction-end-before-headers"
 # Words of a code that say that a request came to no good end.
 FAILURES = ("ABORTED", "TIMEDOUT")
 
 
 @dataclass
 class Access:
-    """A request, or a tunnel, that has ended."""
+    """A request, or a tunnel, that has ended, or a connection that ended without one."""
 
     moment: int
     elapsed: int
@@ -43,6 +45,11 @@ class Access:
     @property
     def denied(self) -> bool:
         return "DENIED" in self.code
+
+    @property
+    def silent(self) -> bool:
+        """Nothing was asked for."""
+        return self.url == SILENT
 
     @property
     def failed(self) -> bool:

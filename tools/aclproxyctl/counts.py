@@ -105,6 +105,7 @@ class Counts:
     ends: Counter[str] = field(default_factory=Counter)
     # Of access logs. Bytes to and from clients, then to and from origins.
     logged: int = 0
+    silent: int = 0
     odd: int = 0
     lost: int = 0
     denied: int = 0
@@ -303,17 +304,20 @@ def count_access(counts: Counts, line: bytes) -> None:
     if access is None:
         counts.odd += 1
         return
-    counts.logged += 1
-    status = f"{access.status // 100}xx" if access.status else "none"
-    count(counts.statuses, (access.code, status), ("other", status))
     counts.sent += access.bytes
     counts.received += access.number("in")
     counts.sent_on += access.number("up")
     counts.fetched += access.number("down")
-    counts.denied += access.denied
     if access.failed:
         counts.failed += 1
         count(counts.causes, access.fields.get("cause", "other"), "other")
+    if access.silent:
+        counts.silent += 1
+        return
+    counts.logged += 1
+    counts.denied += access.denied
+    status = f"{access.status // 100}xx" if access.status else "none"
+    count(counts.statuses, (access.code, status), ("other", status))
     if not access.code.startswith(TUNNEL):
         counts.durations.add(access.elapsed / 1000)
 

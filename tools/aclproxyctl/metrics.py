@@ -152,7 +152,8 @@ class Collector:
         for (code, status), count in sorted(counts.statuses.items()):
             replies.add_metric([code, status], count)
         yield replies
-        yield counter("aclproxy_failures", "Requests that were allowed and came to no good end.", "cause", counts.causes)
+        yield counter("aclproxy_failures", "Requests that were allowed and came to no good end, and connections that were ended before one.", "cause", counts.causes)
+        yield CounterMetricFamily("aclproxy_connections_silent", "Connections that ended without a request.", counts.silent)
         yield CounterMetricFamily("aclproxy_sent_bytes", "Bytes that were sent to clients.", counts.sent)
         yield CounterMetricFamily("aclproxy_received_bytes", "Bytes that came from clients.", counts.received)
         yield CounterMetricFamily("aclproxy_origin_sent_bytes", "Bytes that were sent to origins.", counts.sent_on)

@@ -53,6 +53,8 @@ def report(out: TextIO, named: str, choice: Choice, to: str) -> int:
         try:
             for source in sources:
                 for access in chosen_accesses(source, choice, odd) if source.access else ():
+                    if access.silent:
+                        continue
                     process.stdin.write(access.text + "\n")
                     count += 1
                     denied += access.denied

@@ -48,8 +48,9 @@ def rows_of_access_log(counts: Counts) -> Rows:
     failed = f"{counts.failed:,}"
     if counts.causes:
         failed += ": " + ", ".join(f"{count:,} {cause}" for cause, count in sorted(counts.causes.items(), key=lambda it: (-it[1], it[0])))
+    silent = f"; {words.plural(counts.silent, 'connection')} without a request" if counts.silent else ""
     rows = [
-        ("ended", f"{words.plural(counts.logged, 'request or tunnel', 'requests and tunnels')}, {counts.denied:,} of them denied"),
+        ("ended", f"{words.plural(counts.logged, 'request or tunnel', 'requests and tunnels')}, {counts.denied:,} of them denied{silent}"),
         ("failed", failed),
         ("bytes", f"{size_in_words(counts.sent)} to clients, {size_in_words(counts.received)} from them"),
     ]

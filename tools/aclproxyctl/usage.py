@@ -19,16 +19,22 @@ class Sum:
     denied: int = 0
     failed: int = 0
     bytes: int = 0
+    # What came from clients, where the log says that.
+    uploaded: int = 0
 
 
 def add_accesses(sums: dict[str, Sum], source: Source, choice: Choice, by: str, odd: Odd) -> None:
     for access in chosen_accesses(source, choice, odd):
         key = access.client if by == "client" else access.host if by == "host" else access.fields.get("tag", "-")
+        if access.silent:
+            # Nobody asked for anything.
+            continue
         found = sums.setdefault(key, Sum())
         found.requests += 1
         found.denied += access.denied
         found.failed += access.failed
         found.bytes += access.bytes
+        found.uploaded += access.number("in")
 
 
 def add_requests(sums: dict[str, Sum], source: Source, choice: Choice, by: str) -> None:
@@ -41,13 +47,19 @@ def add_requests(sums: dict[str, Sum], source: Source, choice: Choice, by: str) 
 
 def rows_of(sums: dict[str, Sum], by: str, has_bytes: bool) -> Iterator[list[str]]:
     """The table, with those first that used most."""
-    yield [by, "requests", "denied", *(["failed", "bytes", ""] if has_bytes else [])]
+    has_uploads = any(found.uploaded for found in sums.values())
+    yield [by, "requests", "denied", *(["failed", "bytes", ""] if has_bytes else []), *(["uploaded"] if has_uploads else [])]
     total = Sum()
+
+    def row(key: str, found: Sum) -> list[str]:
+        with_bytes = [f"{found.failed:,}", f"{found.bytes:,}", size_in_words(found.bytes)] if has_bytes else []
+        return [key, f"{found.requests:,}", f"{found.denied:,}", *with_bytes, *([size_in_words(found.uploaded)] if has_uploads else [])]
+
     for key, found in sorted(sums.items(), key=lambda it: (-it[1].bytes, -it[1].requests, it[0])):
-        yield [key, f"{found.requests:,}", f"{found.denied:,}", *([f"{found.failed:,}", f"{found.bytes:,}", size_in_words(found.bytes)] if has_bytes else [])]
+        yield row(key, found)
         for name in vars(total):
             setattr(total, name, getattr(total, name) + getattr(found, name))
-    yield ["all", f"{total.requests:,}", f"{total.denied:,}", *([f"{total.failed:,}", f"{total.bytes:,}", size_in_words(total.bytes)] if has_bytes else [])]
+    yield row("all", total)
 
 
 def usage(out: TextIO, named: list[str], choice: Choice, by: str) -> int:

@@ -176,6 +176,17 @@ class Logged(InFolder):
         by_tag = ctl("usage", "--by", "tag", self.run_folder()).out.splitlines()
         self.assertEqual([line.split()[:5] for line in by_tag[1:3]], [["-", "5", "1", "1", "1,002,428"], ["staff", "2", "0", "1", "300,500"]])
 
+    def test_uploads(self) -> None:
+        """A column of its own, where lines say what came from clients."""
+        path = self.file("access.log", [f"{line} in={number}" for number, line in zip((200, 300, 400, 2048, 1000), LINES)])
+        self.assertEqual(ctl("usage", path).out.splitlines(), [
+            "client       requests  denied  failed      bytes               uploaded",
+            "2001:db8::1         2       0       1  1,000,120  976.7 KiB     2.4 KiB",
+            "10.1.2.4            1       0       0    300,000  293.0 KiB  1000 bytes",
+            "10.1.2.3            2       1       0      2,198    2.1 KiB   500 bytes",
+            "all                 5       1       1  1,302,318    1.2 MiB     3.9 KiB",
+        ])
+
     def test_usage_by_a_journal(self) -> None:
         path = self.file("j", OTHER_JOURNAL)
         self.assertEqual(ctl("usage", path).out.splitlines(), [

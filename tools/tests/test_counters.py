@@ -18,6 +18,7 @@ from tests.test_access import JOURNAL, LINES
 
 RUN = "runs/20251129T004321.000Z"
 # Of the fifth line of LINES, the tunnel; and of the second one.
+SILENT = "1764377093.000   2100 10.9.9.9 NONE/000 0 NONE error:transaction-end-before-headers - HIER_NONE/- - conn=6 cause=gave_way in=0"
 BYTES = ["in=700 up=650 down=299000", "in=300 up=310 down=1900"]
 
 
@@ -25,7 +26,7 @@ class Kept(InFolder):
     def run_folder(self) -> Path:
         self.file(f"{RUN}/journal.000000", JOURNAL)
         lines = [f"{line} {BYTES[0] if 'CONNECT' in line else BYTES[1] if 'www.a.' in line else ''}".rstrip() for line in LINES]
-        self.file(f"{RUN}/access.log", [*lines, "hello"])
+        self.file(f"{RUN}/access.log", [*lines, SILENT, "hello"])
         return self.folder / RUN
 
     def counted(self, run: Path) -> Counted:
@@ -35,9 +36,12 @@ class Kept(InFolder):
         return watched.counted()
 
     def test_what_is_counted(self) -> None:
-        """By hand from the lines: a denial, a refused connection and a client that went away among seven, and one that is none."""
+        """By hand from the lines: a denial, a refused connection and a client that went away among seven, a connection without a request that
+        had to give way, and a line that is none.
+        """
         counts = self.counted(self.run_folder()).counts
-        self.assertEqual((counts.logged, counts.odd, counts.denied, counts.failed), (7, 1, 1, 2))
+        self.assertEqual((counts.logged, counts.silent, counts.odd, counts.denied, counts.failed), (7, 1, 1, 1, 3))
+        self.assertEqual(counts.causes, {"refused": 1, "client_gone": 1, "gave_way": 1})
         self.assertEqual(counts.sent, 150 + 2048 + 1_000_000 + 120 + 300_000 + 500 + 110)
         self.assertEqual((counts.received, counts.sent_on, counts.fetched), (1000, 960, 300_900))
 
@@ -91,12 +95,17 @@ class Kept(InFolder):
             f"journal:       {len(JOURNAL):,} bytes in 1 piece: 20 entries",
             "requests:      5: 4 allowed, 1 denied, of these 0 by a fault of a helper",
             "connections:   3 open",
-            "ended:         7 requests and tunnels, 1 of them denied",
-            "failed:        2: 1 client_gone, 1 refused",
+            "ended:         7 requests and tunnels, 1 of them denied; 1 connection without a request",
+            "failed:        3: 1 client_gone, 1 gave_way, 1 refused",
             "bytes:         1.2 MiB to clients, 1000 bytes from them",
             "access log:    17 lines could not be written, 1 line cannot be read",
         ):
             self.assertIn(row + "\n", ended.out)
+
+    def test_usage(self) -> None:
+        """A connection without a request is nobody's request."""
+        rows = ctl("usage", str(self.run_folder().parent)).out.splitlines()
+        self.assertEqual([row.split()[:4] for row in rows[-2:]], [["10.9.9.9", "1", "0", "0"], ["all", "7", "1", "2"]])
 
     def test_sums(self) -> None:
         """Counts of two runs add up, and neither is changed by it."""

@@ -221,7 +221,7 @@ class Examples(unittest.TestCase):
     def test_alerts(self) -> None:
         checked = subprocess.run(["promtool", "check", "rules", str(self.FOLDER / "alerts.yml")], capture_output=True, text=True, timeout=60)
         self.assertEqual(checked.returncode, 0, checked.stdout + checked.stderr)
-        self.assertIn("SUCCESS: 7 rules found", checked.stdout)
+        self.assertIn("SUCCESS: 10 rules found", checked.stdout)
 
     def test_names(self) -> None:
         """Alerts and dashboard ask for metrics that there are."""
@@ -233,9 +233,9 @@ class Examples(unittest.TestCase):
 
     def test_dashboard(self) -> None:
         board = json.loads((self.FOLDER / "dashboard.json").read_text())
-        self.assertEqual((board["title"], len(board["panels"]), board["templating"]["list"][0]["type"]), ("aclproxy", 10, "datasource"))
+        self.assertEqual((board["title"], len(board["panels"]), board["templating"]["list"][0]["type"]), ("aclproxy", 12, "datasource"))
         places = {(panel["gridPos"]["x"], panel["gridPos"]["y"]) for panel in board["panels"]}
-        self.assertEqual((len(places), {target["refId"] for panel in board["panels"] for target in panel["targets"]}), (10, {"A", "B", "C"}))
+        self.assertEqual((len(places), {target["refId"] for panel in board["panels"] for target in panel["targets"]}), (12, {"A", "B", "C", "D"}))
 
 
 if __name__ == "__main__":
