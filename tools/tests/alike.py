@@ -9,7 +9,6 @@ machine's. A denial of Squid's is a 403; what it allows ends as a 503 or the lik
 differ: Squid looks the names of hosts up, and the addresses of hosts too. The status is 0 where all verdicts are alike.
 """
 
-import contextlib
 import os
 import re
 import shutil
@@ -17,9 +16,8 @@ import socket
 import subprocess
 import sys
 import tempfile
-import time
 from pathlib import Path
-from typing import Iterator, Optional
+from typing import Optional
 from urllib.parse import urlsplit
 
 sys.path.insert(0, str(Path(__file__).resolve().parent.parent))
@@ -28,6 +26,7 @@ from aclproxyctl.posix import translate  # noqa: E402
 from aclproxyctl.squid_files import Converted, items_of  # noqa: E402
 from aclproxyctl.squid_patterns import of_host, of_path  # noqa: E402
 from tests.common import PROGRAM, ctl  # noqa: E402
+from tests.loopback import squid  # noqa: E402
 
 CASES = Path(__file__).resolve().parent / "cases"
 # What a Squid of its own cannot have from a case: other files, users, programs and name servers.
@@ -43,10 +42,6 @@ FIRST_PORT = 24000
 NOBODY = 23998
 # Set where this runs in a network namespace of its own.
 OWN_NET = "ALIKE_OWN_NET"
-COMMON = [
-    "cache deny all", "access_log none", "shutdown_lifetime 0 seconds", "visible_hostname alike", "connect_timeout 2 seconds", "icp_port 0",
-    "max_filedescriptors 1024", "pinger_enable off", "dns_nameservers 127.0.0.1", "dns_retransmit_interval 1 second", "dns_timeout 2 seconds",
-]
 PATTERNS = r"""a.b
 ^http://[a-z0-9.:]+/x
 [\.]exe$
@@ -140,25 +135,6 @@ REQUESTS = [
     ("POST", f"http://a.example:{NOBODY}/"), ("HEAD", f"http://a.example:{NOBODY}/"), ("CONNECT", "a.example:443"), ("CONNECT", "a.example:8443"),
     ("CONNECT", "a.example:81"), ("CONNECT", "games.example:443"), ("GET", "ftp://a.example/x"), ("PUT", "http://play.example/"),
 ]
-
-
-@contextlib.contextmanager
-def squid(folder: Path, lines: list[str], port: int, begun_in: Optional[Path] = None) -> Iterator[None]:
-    """A Squid over these lines."""
-    conf = folder / "squid.conf"
-    own = [f"pid_filename {folder}/pid", f"cache_log {folder}/cache.log", f"coredump_dir {folder}", f"hosts_file {folder}/hosts"]
-    conf.write_text("\n".join([*COMMON, *own, *lines]) + "\n")
-    with open(folder / "said", "wb") as said, subprocess.Popen(["squid", "-N", "-f", str(conf)], stdout=said, stderr=said, cwd=begun_in) as process:
-        try:
-            for _ in range(150):
-                with contextlib.suppress(OSError), socket.create_connection(("127.0.0.1", port), 1):
-                    break
-                if process.poll() is not None:
-                    sys.exit(f"squid has ended: {(folder / 'said').read_text()}")
-                time.sleep(0.2)
-            yield
-        finally:
-            process.terminate()
 
 
 def status_of(client: str, port: int, method: str, target: str) -> str:

@@ -17,6 +17,11 @@ from typing import Callable, Iterator, Optional
 from tests.common import LAUNCHER
 
 TIME = 20.0
+# What each Squid of the tests has.
+SQUID = [
+    "cache deny all", "shutdown_lifetime 0 seconds", "visible_hostname alike", "connect_timeout 2 seconds", "icp_port 0",
+    "max_filedescriptors 1024", "pinger_enable off", "dns_nameservers 127.0.0.1", "dns_retransmit_interval 1 second", "dns_timeout 2 seconds",
+]
 # Starts the words behind the first with the file of that number as file 3.
 HANDS_OVER = "import os, sys; os.dup2(int(sys.argv[1]), 3); os.environ['LISTEN_PID'] = str(os.getpid()); os.execv(sys.argv[2], sys.argv[2:])"
 
@@ -74,6 +79,25 @@ def origin() -> Iterator[int]:
         finally:
             server.shutdown()
             thread.join()
+
+
+@contextlib.contextmanager
+def squid(folder: Path, lines: list[str], port: int, begun_in: Optional[Path] = None, log: str = "none") -> Iterator[None]:
+    """A Squid over these lines. Where it begins as root it goes on as a user of its own, who has to be let into the folder."""
+    conf = folder / "squid.conf"
+    own = [f"pid_filename {folder}/pid", f"cache_log {folder}/cache.log", f"coredump_dir {folder}", f"hosts_file {folder}/hosts"]
+    conf.write_text("\n".join([*SQUID, f"access_log {log}", *own, *lines]) + "\n")
+    with open(folder / "said", "wb") as said, subprocess.Popen(["squid", "-N", "-f", str(conf)], stdout=said, stderr=said, cwd=begun_in) as process:
+        try:
+            for _ in range(150):
+                with contextlib.suppress(OSError), socket.create_connection(("127.0.0.1", port), 1):
+                    break
+                if process.poll() is not None:
+                    raise AssertionError(f"squid has ended: {(folder / 'said').read_text()}")
+                time.sleep(0.2)
+            yield
+        finally:
+            process.terminate()
 
 
 class Service:
