@@ -1,6 +1,7 @@
 """What is counted of a run as it grows: in its journal, and in its access log where the program writes one."""
 
 import bisect
+import time
 from collections import Counter
 from dataclasses import dataclass, field, fields
 from pathlib import Path
@@ -201,21 +202,26 @@ class Watched:
         # Whether something was counted that its file of counters lacks.
         self.changed = True
 
-    def update(self) -> None:
-        """Counts what came since. A journal that cannot be read is left as it is."""
-        before = self.journal.bytes + self.access.bytes
+    def update(self, seconds: float = float("inf")) -> bool:
+        """Counts what came since, for so long, and says whether that was all. A journal that cannot be read is left as it is."""
+        end = time.monotonic() + seconds
         try:
-            while lines := self.journal.lines():
-                for line in lines:
+            while True:
+                entries, accesses = self.journal.lines(), self.access.lines()
+                for line in entries:
                     self.line(line)
-            while lines := self.access.lines():
-                self.has_access = True
-                for line in lines:
+                for line in accesses:
                     count_access(self.counts, line)
+                if not entries and not accesses:
+                    break
+                self.changed = True
+                if time.monotonic() > end:
+                    return False
             self.has_access = self.has_access or bool(access_files(self.run))
         except (UserError, OSError, ValueError, IndexError, EOFError) as fault:
+            self.changed = self.changed or not self.fault
             self.fault = str(fault) or type(fault).__name__
-        self.changed = self.changed or self.journal.bytes + self.access.bytes != before
+        return True
 
     def counted(self) -> Counted:
         try:

@@ -10,6 +10,8 @@ from aclproxyctl.counts import Counted, Counts, Watched
 
 # So often journals and access logs are read on, and the files of counters are written.
 PAUSE = 1.0
+# Who waits for the counts waits so long at most for what is still to be read of a run; a service with more than that is counted later.
+SPAN = 0.5
 
 
 class Ledger:
@@ -65,7 +67,7 @@ class Ledger:
 
     def count(self, one: Watched, whole: bool) -> None:
         """Reads a run on, and keeps its counts where they have changed, or are whole now."""
-        one.update()
+        one.update(float("inf") if whole else SPAN)
         if not self.keep or not (one.changed or whole) or not one.run.is_dir():
             return
         try:
@@ -82,7 +84,7 @@ class Ledger:
         """What is counted by now: the run that began last, each run that has not ended, that one as the last, and the counts of all."""
         with self.lock:
             for one in self.all():
-                one.update()
+                one.update(SPAN if self.keep else float("inf"))
             total = Counts()
             total.join(self.over)
             for one in self.all():

@@ -142,6 +142,21 @@ class Books(InFolder):
         self.assertEqual((kept.whole, kept.counted.counts.lost, kept.counted.counts.entries), (True, 3, 20))
         ledger.close()
 
+    def test_one_that_grows_faster_than_it_is_read(self) -> None:
+        """It is read piece by piece, and what was read stands in the file."""
+        for number in range(3):
+            self.file(f"a/journal.{number:06}", "".join(JOURNAL.splitlines(True)[number * 7 : number * 7 + 7]))
+        ledger = Ledger()
+        ledger.watch(self.folder / "a")
+        found = []
+        with mock.patch("aclproxyctl.ledger.SPAN", 0.0):
+            for _ in range(4):
+                ledger.update()
+                found.append(json.loads((self.folder / "a" / "counters.json").read_text())["standing"]["entries"])
+        # The first line of the journal is no entry.
+        self.assertEqual(found, [6, 13, 20, 20])
+        ledger.close()
+
     def test_one_that_cannot_be_written(self) -> None:
         """That is said once."""
         self.file("a/journal.000000", JOURNAL)
