@@ -18,7 +18,11 @@ LAUNCHER = TOOLS / "bin" / "aclproxyctl"
 PROGRAM = os.environ.get("ACLPROXY", "")
 HAS_PROGRAM = bool(PROGRAM) and os.access(PROGRAM, os.X_OK)
 
+# Whether the program writes an access log.
+HAS_LOG = HAS_PROGRAM and b"ACLPROXY_ACCESS_LOG" in Path(PROGRAM).read_bytes()
+
 needs_program = unittest.skipUnless(HAS_PROGRAM, "the variable ACLPROXY names no program")
+needs_log = unittest.skipUnless(HAS_LOG, "the variable ACLPROXY names no program that writes an access log")
 
 
 class Ended:

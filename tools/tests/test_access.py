@@ -15,7 +15,7 @@ from pathlib import Path
 
 from aclproxyctl.access import access_files, host_of, is_host, parse
 from aclproxyctl.access_log import PATIENCE, AccessLog
-from tests.common import LAUNCHER, PROGRAM, InFolder, ctl, needs_program
+from tests.common import HAS_LOG, LAUNCHER, InFolder, ctl, needs_log, needs_program
 from tests.test_log import JOURNAL as OTHER_JOURNAL
 from tests.test_log import LINES as OTHER_LINES
 from tests.loopback import Service, wait_for
@@ -377,7 +377,7 @@ class Kept(InFolder):
     @needs_program
     def test_a_program_that_writes_none(self) -> None:
         """Then no file is made, and nothing is said of one."""
-        if b"ACLPROXY_ACCESS_LOG" in Path(PROGRAM).read_bytes():
+        if HAS_LOG:
             self.skipTest("this program writes one")
         conf = self.file("conf", ["http_access deny all"])
         with Service(self.folder, conf, "--access-log-bytes", "1") as service:
@@ -388,6 +388,59 @@ class Kept(InFolder):
             self.assertEqual(service.ended(), 0)
             self.assertEqual(access_files(service.runs()[0]), [])
         self.assertNotIn("access log", service.said())
+
+
+@needs_log
+class Written(InFolder):
+    """The access log of the program itself, by way of the service."""
+
+    def test_files(self) -> None:
+        """No line is lost over further files, of which one begins by size; each is for its owner alone, and names its rule and its check."""
+        conf = self.file("conf", ["acl a dstdomain a.example", "http_access deny a", "http_access deny all"])
+        with Service(self.folder, conf, "--access-log-bytes", "400") as service:
+            service.told("READY")
+            (run,) = service.runs()
+            for number in range(12):
+                service.get(f"http://{'ab'[number % 2]}.example/{number}")
+            wait_for(lambda: len(access_files(run)) >= 2)
+            service.get("http://b.example/12")
+            service.get("http://b.example/13")
+            service.process.send_signal(signal.SIGTERM)
+            self.assertEqual(service.ended(), 0)
+        ended = ctl("log", "--rule", str(service.journal))
+        self.assertEqual((ended.status, ended.err), (0, ""))
+        found = [(access.url, access.fields["check"], access.fields["rule"], access.text.partition(" rule ")[2]) for access in map(parse, ended.out.splitlines()) if access]
+        self.assertEqual(found, [
+            (f"http://{'a' if number % 2 == 0 and number < 12 else 'b'}.example/{number}", str(number + 1), *(
+                ("1", "1: http_access deny a") if number % 2 == 0 and number < 12 else ("2", "2: http_access deny all")
+            ))
+            for number in range(14)
+        ])
+        self.assertEqual({oct(path.stat().st_mode & 0o777) for path in access_files(run)[:-1]}, {"0o600"})
+
+    def test_followed(self) -> None:
+        """A line comes with its rule while the service runs."""
+        conf = self.file("conf", ["http_access deny all"])
+        with Service(self.folder, conf) as service:
+            service.told("READY")
+            service.get("http://a.example/")
+            wait_for(lambda: ctl("log", str(service.journal)).out.count("\n") == 1)
+            with subprocess.Popen([sys.executable, str(LAUNCHER), "log", "-f", "--rule", str(service.journal)], stdout=subprocess.PIPE) as process:
+                patience = threading.Timer(30, process.kill)
+                patience.start()
+                try:
+                    assert process.stdout is not None
+                    for path in ("", "b"):
+                        line = process.stdout.readline().decode()
+                        self.assertIn(" TCP_DENIED/403 ", line)
+                        self.assertIn(f" GET http://a.example/{path} - HIER_NONE/- text/plain conn=", line)
+                        self.assertTrue(line.endswith(" rule 1: http_access deny all\n"), line)
+                        service.get("http://a.example/b")
+                finally:
+                    patience.cancel()
+                    process.terminate()
+            service.process.send_signal(signal.SIGTERM)
+            self.assertEqual(service.ended(), 0)
 
 
 def mock_program(path: str) -> "unittest.mock._patch_dict":

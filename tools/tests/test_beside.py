@@ -13,7 +13,7 @@ from pathlib import Path
 from typing import Callable
 
 from aclproxyctl.access import Odd, access_files, accesses
-from tests.common import PROGRAM, ctl, needs_program
+from tests.common import ctl, needs_log
 from tests.loopback import TIME, Service, free_port, origin, squid
 
 RULES = ["acl games dstdomain .games.example", "http_access deny games", "http_access allow all"]
@@ -62,9 +62,8 @@ def ask_all(port: int, server: int, nobody: int) -> dict[str, int]:
 Totals = dict[str, tuple[int, int]]
 
 
-@needs_program
+@needs_log
 @unittest.skipUnless(shutil.which("squid"), "there is no squid")
-@unittest.skipUnless(PROGRAM and b"ACLPROXY_ACCESS_LOG" in Path(PROGRAM).read_bytes(), "this program writes no access log")
 class Beside(unittest.TestCase):
     """By hand: of the eleven requests six are the first client's and five the second one's; eight end with 200, two with 403 and one with 502 or 503. Each
     reply is to its client alone, so the bytes that a client got are those of the log.

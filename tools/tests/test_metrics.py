@@ -231,6 +231,14 @@ class Examples(unittest.TestCase):
             asked = set(re.findall(r"aclproxy_[a-z_]+", (self.FOLDER / name).read_text()))
             self.assertEqual(asked - known, set())
 
+    def test_names_in_the_documents(self) -> None:
+        page = (TOP / "docs" / "OPERATING.md").read_text()
+        table = page[page.index("| Metrics, each with `aclproxy_` in front |") :].partition("\n\n")[0]
+        named = {f"aclproxy_{name}" for row in table.splitlines()[2:] for name in re.findall(r"`([a-z_]+)`", row.split("|")[1])}
+        known = {re.sub(r"_(bucket|sum|count)$", "", name) for name in self.known()}
+        self.assertEqual(named - known, set())
+        self.assertEqual(known - named, set())
+
     def test_dashboard(self) -> None:
         board = json.loads((self.FOLDER / "dashboard.json").read_text())
         self.assertEqual((board["title"], len(board["panels"]), board["templating"]["list"][0]["type"]), ("aclproxy", 12, "datasource"))
