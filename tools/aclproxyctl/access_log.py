@@ -42,6 +42,12 @@ class AccessLog:
         self.ordered = float("-inf")
         self.private = False
 
+    def make_private(self) -> None:
+        """Lets nobody but its owner read the file, once there is one."""
+        if not self.private and self.path.exists():
+            self.path.chmod(0o600)
+            self.private = True
+
     def turn(self) -> None:
         """Renames the file where it is due."""
         day = self.day()
@@ -50,9 +56,7 @@ class AccessLog:
         except OSError:
             # There is none, or none yet.
             return
-        if not self.private:
-            self.path.chmod(0o600)
-            self.private = True
+        self.make_private()
         if self.renamed or size == 0:
             return
         if size >= self.most or day != self.of_day:
@@ -76,3 +80,4 @@ class AccessLog:
         """`serve` has read its configuration again, and with it opened the name."""
         self.renamed = False
         self.ordered = float("-inf")
+        self.make_private()

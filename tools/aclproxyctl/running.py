@@ -200,6 +200,14 @@ class Run:
         except OSError:
             # `status` knows less then.
             pass
+        self.hide_access_log()
+
+    def hide_access_log(self) -> None:
+        if self.access is not None:
+            try:
+                self.access.make_private()
+            except OSError as fault:
+                say(f"{self.access.path} may be readable for others: {fault.strerror}")
 
     def heard(self, line: str) -> None:
         """A line that the server has for its administrator."""
@@ -283,6 +291,7 @@ class Run:
             left.add(self.errors)
         self.messages.close()
         (self.folder / SERVICE).unlink(missing_ok=True)
+        self.hide_access_log()
         os.close(self.lock)
         try:
             self.split.wait(KILLED_AFTER)
