@@ -201,9 +201,15 @@ class Watched:
         self.fault = ""
         # Whether something was counted that its file of counters lacks.
         self.changed = True
+        # Whether it has ended, whether nothing more comes then, and whether all of it was counted.
+        self.over = False
+        self.whole = True
+        self.closed = False
 
     def update(self, seconds: float = float("inf")) -> bool:
         """Counts what came since, for so long, and says whether that was all. A journal that cannot be read is left as it is."""
+        if self.closed:
+            return True
         end = time.monotonic() + seconds
         try:
             while True:
@@ -232,6 +238,7 @@ class Watched:
         return Counted(self.counts, self.state.standing(), self.journal.bytes, pieces, len(self.journal.rest), self.has_access, self.fault)
 
     def close(self) -> None:
+        self.closed = True
         self.journal.close()
         self.access.close()
 

@@ -12,6 +12,8 @@ from aclproxyctl.counts import Counted, Counts, Watched
 PAUSE = 1.0
 # Who waits for the counts waits so long at most for what is still to be read of a run; a service with more than that is counted later.
 SPAN = 0.5
+# At its end the service counts so long at most.
+LAST_SPAN = 5.0
 
 
 class Ledger:
@@ -40,17 +42,26 @@ class Ledger:
             self.watched = Watched(run)
 
     def ended(self, run: Path, whole: bool = True) -> None:
-        """A run has ended; what it has left is counted, and nothing more comes where that is whole. Where it is the last one to have begun, the one before is the last from now on."""
+        """A run has ended, and nothing more comes where that is whole. What is left of it is counted now or soon."""
         with self.lock:
-            for one in [one for one in self.all() if one.run == run]:
-                self.count(one, whole)
-                one.close()
-                if one is not self.watched:
-                    self.before.remove(one)
-                    self.over.join(one.counts)
-                elif self.before:
-                    self.watched = self.before.pop()
-                    self.over.join(one.counts)
+            for one in self.all():
+                if one.run == run:
+                    one.over = True
+                    one.whole = whole
+                    self.count(one)
+
+    def settle(self, one: Watched) -> None:
+        """All of a run is counted. Where it is the last one to have begun, the one before is the last from now on."""
+        one.close()
+        if one is not self.watched:
+            self.before.remove(one)
+            self.over.join(one.counts)
+            return
+        going = [other for other in self.before if not other.over]
+        if going:
+            self.watched = going[-1]
+            self.before.remove(going[-1])
+            self.over.join(one.counts)
 
     def lost(self, run: Path, lines: int) -> None:
         """So many lines of a run's access log could not be written in all."""
@@ -60,25 +71,30 @@ class Ledger:
                     one.counts.lost = lines
                     one.changed = True
 
-    def update(self) -> None:
+    def update(self) -> bool:
+        """Reads all runs on, and says whether each one that has ended is counted to its end."""
         with self.lock:
             for one in self.all():
-                self.count(one, False)
+                self.count(one)
+            return not any(one.over and not one.closed for one in self.all())
 
-    def count(self, one: Watched, whole: bool) -> None:
+    def count(self, one: Watched) -> None:
         """Reads a run on, and keeps its counts where they have changed, or are whole now."""
-        one.update(float("inf") if whole else SPAN)
-        if not self.keep or not (one.changed or whole) or not one.run.is_dir():
+        if one.closed:
             return
-        try:
-            counters.write(one.run, one.counted(), whole)
-            one.changed = False
-            self.complaint = ""
-        except OSError as fault:
-            # Once, and not each second.
-            if str(fault) != self.complaint:
-                self.complaint = str(fault)
-                self.say(f"the counters cannot be kept: {fault}")
+        done = one.update(SPAN) and one.over
+        if self.keep and (one.changed or done) and one.run.is_dir():
+            try:
+                counters.write(one.run, one.counted(), done and one.whole)
+                one.changed = False
+                self.complaint = ""
+            except OSError as fault:
+                # Once, and not each second.
+                if str(fault) != self.complaint:
+                    self.complaint = str(fault)
+                    self.say(f"the counters cannot be kept: {fault}")
+        if done:
+            self.settle(one)
 
     def found(self) -> tuple[Optional[Path], list[Counted], Counts]:
         """What is counted by now: the run that began last, each run that has not ended, that one as the last, and the counts of all."""
@@ -100,7 +116,11 @@ class Ledger:
         threading.Thread(target=self.work, name="counts", daemon=True).start()
 
     def stop(self) -> None:
+        """The service ends. What is not counted by then is read by who asks for it."""
         self.ended_all.set()
+        until = time.monotonic() + LAST_SPAN
+        while not self.update() and time.monotonic() < until:
+            pass
 
     def close(self) -> None:
         with self.lock:

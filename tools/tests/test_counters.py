@@ -157,6 +157,27 @@ class Books(InFolder):
         self.assertEqual(found, [6, 13, 20, 20])
         ledger.close()
 
+    def test_one_that_ends_with_much_left(self) -> None:
+        """Who says that it has ended does not wait until all of it is counted, and its counters are whole only then."""
+        for number in range(3):
+            self.file(f"a/journal.{number:06}", "".join(JOURNAL.splitlines(True)[number * 7 : number * 7 + 7]))
+        self.file("b/journal.000000", "journal 2\n")
+        ledger = Ledger()
+        ledger.watch(self.folder / "a")
+        ledger.watch(self.folder / "b")
+        with mock.patch("aclproxyctl.ledger.SPAN", 0.0):
+            ledger.ended(self.folder / "a")
+            self.assertEqual((len(ledger.found()[1]), counters.read(self.folder / "a")), (2, None))
+            ledger.ended(self.folder / "b")
+            ledger.stop()
+        run, found, counts = ledger.found()
+        self.assertEqual((run, len(found), counts.entries), (self.folder / "b", 1, 20))
+        for name, entries in (("a", 20), ("b", 0)):
+            kept = counters.read(self.folder / name)
+            assert kept is not None
+            self.assertEqual((kept.whole, kept.counted.counts.entries), (True, entries))
+        ledger.close()
+
     def test_one_that_cannot_be_written(self) -> None:
         """That is said once."""
         self.file("a/journal.000000", JOURNAL)
