@@ -9,7 +9,7 @@ import os
 import re
 from dataclasses import dataclass, field
 from pathlib import Path
-from typing import Iterator, Optional
+from typing import Iterator, NamedTuple, Optional
 
 from aclproxyctl.errors import CUT, UserError, of_system
 from aclproxyctl.packed import open_plain_or_packed
@@ -27,8 +27,7 @@ SILENT = "error:transaction-end-before-headers"
 FAILURES = ("ABORTED", "TIMEDOUT")
 
 
-@dataclass
-class Access:
+class Access(NamedTuple):
     """A request, or a tunnel, that has ended, or a connection that ended without one."""
 
     moment: int
@@ -94,11 +93,7 @@ def parse(text: str) -> Optional[Access]:
         return None
     if not (words[1].isascii() and words[1].isdigit() and words[4].isascii() and words[4].isdigit()):
         return None
-    fields = {}
-    for word in words[10:]:
-        name, equals, value = word.partition("=")
-        if equals:
-            fields[name] = value
+    fields = dict(word.split("=", 1) for word in words[10:] if "=" in word)
     return Access(
         int(moment[1]) * 1000 + int(moment[2]), int(words[1]), words[2], code, int(status) if status != "-" else 0, int(words[4]), words[5], words[6], fields, text
     )

@@ -317,13 +317,16 @@ def count_access(counts: Counts, line: bytes) -> None:
     if access is None:
         counts.odd += 1
         return
+    fields = access.fields
     counts.sent += access.bytes
-    counts.received += access.number("in")
-    counts.sent_on += access.number("up")
-    counts.fetched += access.number("down")
+    if "in" in fields:
+        counts.received += access.number("in")
+    if "up" in fields:
+        counts.sent_on += access.number("up")
+        counts.fetched += access.number("down")
     if access.failed:
         counts.failed += 1
-        count(counts.causes, access.fields.get("cause", "other"), "other")
+        count(counts.causes, fields.get("cause", "other"), "other")
     if access.silent:
         counts.silent += 1
         return
