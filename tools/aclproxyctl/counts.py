@@ -13,8 +13,8 @@ from aclproxyctl.journal import Reader, open_piece, pieces_of, shown
 from aclproxyctl.state import Standing, State
 
 BLOCK = 1 << 20
-# Look-ups of names stand in a journal as helpers of this class.
-LOOKUP = "dst lookup"
+# Look-ups of names stand in a journal as helpers of this class, whose blank stays escaped.
+LOOKUP = "dst%20lookup"
 # A label has at most so many values; what comes beyond is counted as `other`.
 MOST_LABELS = 1000
 # The upper bounds of a histogram, in seconds.

@@ -1,13 +1,16 @@
 """What the tests share: the program, folders, and the tool as a process."""
 
 import contextlib
+import html
 import io
+import json
 import os
+import re
 import tempfile
 import time
 import unittest
 from pathlib import Path
-from typing import Iterator, Optional, Sequence, Union
+from typing import Any, Iterator, Optional, Sequence, Union
 from unittest import mock
 
 from aclproxyctl.cli import main
@@ -62,6 +65,15 @@ def other_user(folder: Path) -> Iterator[None]:
         yield
     finally:
         os.seteuid(0)
+
+
+def data_of(page: Path) -> dict[str, Any]:
+    """What a page of goaccess shows, which it holds as JSON."""
+    found = re.search(r"var json_data=(\{.*?\});?</script>|var json_data=(\{.*\})", page.read_text())
+    assert found is not None
+    data = json.loads(html.unescape(found[1] or found[2]))
+    assert isinstance(data, dict)
+    return data
 
 
 class InFolder(unittest.TestCase):

@@ -100,6 +100,20 @@ def squid(folder: Path, lines: list[str], port: int, begun_in: Optional[Path] = 
             process.terminate()
 
 
+def ask(port: int, client: str, request: str, tunnelled: str = "") -> bytes:
+    """What a client with this address gets for a request, and for another one through the tunnel that it asked for."""
+    got = b""
+    with socket.create_connection(("127.0.0.1", port), TIME, source_address=(client, 0)) as link:
+        link.sendall(request.encode())
+        if tunnelled:
+            while b"\r\n\r\n" not in got:
+                got += link.recv(65536)
+            link.sendall(tunnelled.encode())
+        while more := link.recv(65536):
+            got += more
+    return got
+
+
 class Service:
     """The tool's `run` under a socket as systemd's."""
 

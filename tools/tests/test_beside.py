@@ -1,11 +1,9 @@
 """Programs that read logs of Squid's, over the log of this proxy and over that of a Squid that was asked the same: their totals are alike."""
 
 import html
-import json
 import re
 import shutil
 import signal
-import socket
 import subprocess
 import tempfile
 import unittest
@@ -13,24 +11,10 @@ from pathlib import Path
 from typing import Callable
 
 from aclproxyctl.access import Odd, access_files, accesses
-from tests.common import ctl, needs_log
-from tests.loopback import TIME, Service, free_port, origin, squid
+from tests.common import ctl, data_of, needs_log
+from tests.loopback import Service, ask, free_port, origin, squid
 
 RULES = ["acl games dstdomain .games.example", "http_access deny games", "http_access allow all"]
-
-
-def ask(port: int, client: str, request: str, tunnelled: str = "") -> bytes:
-    """What a client with this address gets for a request, and for another one through the tunnel that it asked for."""
-    got = b""
-    with socket.create_connection(("127.0.0.1", port), TIME, source_address=(client, 0)) as link:
-        link.sendall(request.encode())
-        if tunnelled:
-            while b"\r\n\r\n" not in got:
-                got += link.recv(65536)
-            link.sendall(tunnelled.encode())
-        while more := link.recv(65536):
-            got += more
-    return got
 
 
 def ask_all(port: int, server: int, nobody: int) -> dict[str, int]:
@@ -173,9 +157,7 @@ class Beside(unittest.TestCase):
             page = self.folder / f"{log.name}.html"
             ended = ctl("report", str(log), "-o", str(page))
             self.assertEqual(ended.status, 0, ended.err)
-            found = re.search(r"var json_data=(\{.*?\});?</script>|var json_data=(\{.*\})", page.read_text())
-            assert found is not None
-            data = json.loads(html.unescape(found[1] or found[2]))
+            data = data_of(page)
             self.assertEqual((data["general"]["total_requests"], data["general"]["failed_requests"]), (11, 0))
             self.assertEqual({row["data"]: row["hits"]["count"] for row in data["status_codes"]["data"]}, {
                 "2xx Success": 8, "4xx Client Errors": 2, "5xx Server Errors": 1,

@@ -12,13 +12,14 @@ import urllib.request
 from pathlib import Path
 from unittest import mock
 
+from aclproxyctl import counters
 from aclproxyctl.counts import Counts, Histogram, Watched
 from aclproxyctl.metrics import address_of
-from tests.common import TOP, InFolder, ctl, needs_program
+from tests.common import HAS_LOG, TOP, InFolder, ctl, needs_program
 from tests.test_access import JOURNAL as LOGGED_JOURNAL
 from tests.test_access import LINES
 from tests.test_log import JOURNAL
-from tests.loopback import Service, free_port, wait_for
+from tests.loopback import Service, ask, free_port, wait_for
 
 DEBIAN = "/usr/lib/python3/dist-packages"
 if importlib.util.find_spec("prometheus_client") is None and Path(DEBIAN, "prometheus_client").is_dir():
@@ -49,6 +50,18 @@ HELPERS = """journal 2
 18 1 5070 line 3 0%20OK => reply 4 ok
 19 1 5080 act => stop 3
 20 1 5080 close 1 => ok
+"""
+
+
+# Look-ups of names, of which the second one finds nothing.
+LOOKUPS = """journal 2
+1 1 1000 begin 0 => epoch 1
+2 1 1000 act => start 1 dst%20lookup
+3 1 1001 started 1 dst%20lookup => proc 1
+4 1 1001 act => send 1 1 0 a.example%20-
+5 1 1002 act => send 1 2 1 b.example%20-
+6 1 1031 line 1 0%20OK => reply 1 ok
+7 1 1102 line 1 1%20BH => reply 2 bh
 """
 
 
@@ -148,6 +161,34 @@ class Text(InFolder):
         found = self.metrics(str(self.folder / "runs"))
         self.assertEqual((found["aclproxy_sent_bytes_total"], found['aclproxy_failures_total{cause="refused"}']), (1_302_928, 1))
 
+    @needs_client
+    def test_lookups(self) -> None:
+        """They are none of the helpers. One took 30 milliseconds, the other 100."""
+        self.file("runs/20251129T004321.000Z/journal.000000", LOOKUPS)
+        found = self.metrics(str(self.folder / "runs"))
+        self.assertEqual((found['aclproxy_lookups_total{result="ok"}'], found['aclproxy_lookups_total{result="bh"}']), (1, 1))
+        self.assertEqual([found[f'aclproxy_lookup_seconds_bucket{{le="{bound}"}}'] for bound in ("0.025", "0.05", "0.1")], [0, 1, 2])
+        self.assertEqual([name for name in found if name.startswith("aclproxy_helper_") and "dropped" not in name], [])
+
+    @needs_client
+    def test_by_counters(self) -> None:
+        """Once again the same, where the service has left its counters: nothing else of the run is read."""
+        self.file("runs/20251129T004321.000Z/journal.000000", JOURNAL)
+        self.file("runs/20251129T004321.000Z/access.log", LINES)
+        run = self.folder / "runs" / "20251129T004321.000Z"
+
+        def counted() -> dict[str, float]:
+            return {name: value for name, value in self.metrics(str(self.folder / "runs")).items() if "disk" not in name}
+
+        before = counted()
+        watched = Watched(run)
+        watched.update()
+        watched.close()
+        counters.write(run, watched.counted(), True)
+        for name in ("journal.000000", "access.log"):
+            (run / name).write_text("")
+        self.assertEqual(counted(), before)
+
     def test_without_the_client(self) -> None:
         self.file("runs/20251129T004321.000Z/journal.000000", JOURNAL)
         with mock.patch.dict(sys.modules, {"prometheus_client": None, "prometheus_client.registry": None}):
@@ -179,14 +220,20 @@ class Served(InFolder):
         options = ("--metrics", f"127.0.0.1:{port}", "--workers", "3", "--run-bytes", "4000")
         with mock.patch.dict("os.environ", {"PYTHONPATH": DEBIAN}), mock.patch.dict("os.environ", {"no_proxy": "*"}), Service(self.folder, conf, *options) as service:
             service.told("READY")
-            for _ in range(2):
-                service.get("http://a.example/")
+            request = "GET http://a.example/ HTTP/1.1\r\nHost: a.example\r\nConnection: close\r\n\r\n"
+            got = [ask(service.port, "127.0.0.1", request) for _ in range(2)]
             denied = 'aclproxy_requests_total{by="rule",outcome="denied",rule="1"}'
             wait_for(lambda: found().get(denied) == 2)
             first = found()
             self.assertEqual((first["aclproxy_up"], first["aclproxy_workers"], first["aclproxy_runs_total"], first["aclproxy_connections_opened_total"]), (1, 3, 1, 2))
             self.assertEqual((first["aclproxy_workers_in_use"], first["aclproxy_clients_waiting"]), (0, 0))
             self.assertGreater(first["aclproxy_process_resident_bytes"], 1_000_000)
+            if HAS_LOG:
+                wait_for(lambda: found().get('aclproxy_replies_total{code="TCP_DENIED",status="4xx"}') == 2)
+                logged = found()
+                self.assertEqual(logged["aclproxy_sent_bytes_total"], sum(map(len, got)))
+                self.assertEqual((logged["aclproxy_received_bytes_total"], logged["aclproxy_request_seconds_count"]), (2 * len(request), 2))
+                self.assertEqual(logged["aclproxy_access_log_dropped_lines_total"], 0)
             service.get("http://a.example/" + "x" * 3000)
             service.told("READY")
             service.get("http://a.example/")

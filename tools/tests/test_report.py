@@ -1,15 +1,12 @@
 """report: goaccess reads each line of the log."""
 
-import html
-import json
 import os
-import re
 import shutil
 import unittest
 from pathlib import Path
 from unittest import mock
 
-from tests.common import InFolder, ctl
+from tests.common import InFolder, ctl, data_of
 from tests.test_log import JOURNAL
 
 
@@ -20,10 +17,7 @@ class Report(InFolder):
         ended = ctl("report", self.file("j", JOURNAL), "-o", str(page))
         self.assertEqual((ended.status, ended.out), (0, f"{page}: 5 requests, 2 of them denied\n"), ended.err)
         self.assertEqual(page.stat().st_mode & 0o777, 0o600)
-        # The page holds what it shows as JSON.
-        found = re.search(r"var json_data=(\{.*?\});?</script>|var json_data=(\{.*\})", page.read_text())
-        assert found is not None
-        data = json.loads(html.unescape(found.group(1) or found.group(2)))
+        data = data_of(page)
         general = data["general"]
         self.assertEqual((general["total_requests"], general["valid_requests"], general["failed_requests"]), (5, 5, 0))
         codes = {code["data"]: code["hits"]["count"] for code in data["status_codes"]["data"]}
