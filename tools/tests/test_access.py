@@ -11,7 +11,6 @@ import threading
 import time
 import unittest
 import unittest.mock
-from pathlib import Path
 
 from aclproxyctl.access import access_files, host_of, is_host, parse
 from aclproxyctl.access_log import PATIENCE, AccessLog

@@ -7,6 +7,7 @@ import shutil
 import signal
 import subprocess
 import sys
+import tempfile
 import unittest
 import urllib.request
 from pathlib import Path
@@ -269,6 +270,53 @@ class Examples(unittest.TestCase):
         checked = subprocess.run(["promtool", "check", "rules", str(self.FOLDER / "alerts.yml")], capture_output=True, text=True, timeout=60)
         self.assertEqual(checked.returncode, 0, checked.stdout + checked.stderr)
         self.assertIn("SUCCESS: 10 rules found", checked.stdout)
+
+    @unittest.skipUnless(shutil.which("promtool"), "there is no promtool")
+    def test_what_alerts(self) -> None:
+        """Ten requests a minute of which one fails are an alert after twenty minutes, and not after ten; those whose clients went away are none. One line of
+        the access log that was lost is one at once.
+        """
+        series = {
+            'aclproxy_replies_total{code="TCP_MISS",status="2xx"}': "0+10x40",
+            'aclproxy_failures_total{cause="refused"}': "0+1x40",
+            'aclproxy_failures_total{cause="client_gone"}': "0+5x40",
+            "aclproxy_access_log_dropped_lines_total": "0x29 1x10",
+            "aclproxy_up": "1x40",
+        }
+        wanted = (("AclproxyManyFailures", "10m", 0), ("AclproxyManyFailures", "25m", 1), ("AclproxyAccessLogDropsLines", "25m", 0),
+                  ("AclproxyAccessLogDropsLines", "32m", 1), ("AclproxyDown", "32m", 0), ("AclproxySlow", "32m", 0))
+        tests = [{
+            "interval": "1m",
+            "input_series": [{"series": name, "values": values} for name, values in series.items()],
+            "alert_rule_test": [
+                {"alertname": name, "eval_time": at, "exp_alerts": [{"exp_labels": {"severity": "warning"}, "exp_annotations": self.summary(name)}] * count}
+                for name, at, count in wanted
+            ],
+        }]
+        self.promtool("test", {"rule_files": [str(self.FOLDER / "alerts.yml")], "evaluation_interval": "1m", "tests": tests})
+
+    def summary(self, name: str) -> dict[str, str]:
+        text = (self.FOLDER / "alerts.yml").read_text().partition(f"alert: {name}\n")[2]
+        found = re.search(r'summary: "?(.*?)"?\n', text)
+        assert found is not None
+        return {"summary": found[1]}
+
+    def promtool(self, does: str, what: object) -> None:
+        """Has it test or check rules. JSON is YAML, too."""
+        with tempfile.NamedTemporaryFile("w", suffix=".yml") as file:
+            json.dump(what, file)
+            file.flush()
+            ran = subprocess.run(["promtool", does, "rules", file.name], capture_output=True, text=True, timeout=60)
+            self.assertEqual(ran.returncode, 0, ran.stdout + ran.stderr)
+
+    @unittest.skipUnless(shutil.which("promtool"), "there is no promtool")
+    def test_queries(self) -> None:
+        """Those of the dashboard are ones that Prometheus can read."""
+        board = json.loads((self.FOLDER / "dashboard.json").read_text())
+        queries = [target["expr"].replace("$__rate_interval", "1m") for panel in board["panels"] for target in panel["targets"]]
+        self.assertGreater(len(queries), 12)
+        rules = [{"record": f"query:{number}", "expr": query} for number, query in enumerate(queries)]
+        self.promtool("check", {"groups": [{"name": "queries", "rules": rules}]})
 
     def test_names(self) -> None:
         """Alerts and dashboard ask for metrics that there are."""
