@@ -162,6 +162,8 @@ class Run:
         assert self.split.stdin is not None
         env = {**os.environ, VARIABLE: str(self.errors.path.absolute()), MESSAGES_VARIABLE: str(self.messages.path.absolute())}
         env.update({"LISTEN_FDS": "1", LINGER_VARIABLE: str(options.linger)})
+        # One that this process was started with is nobody's here.
+        env.pop(ACCESS_VARIABLE, None)
         self.access = AccessLog(self.folder, options.access_bytes) if options.access_log else None
         if self.access is not None:
             env[ACCESS_VARIABLE] = str(self.access.path.absolute())

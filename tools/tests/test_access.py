@@ -366,12 +366,15 @@ class Kept(InFolder):
 
     def test_none_is_wanted(self) -> None:
         conf = self.file("conf", ["http_access deny all"])
-        with mock_program(self.program()), Service(self.folder, conf, "--no-access-log") as service:
+        elsewhere = self.folder / "elsewhere"
+        with mock_program(self.program()), unittest.mock.patch.dict(os.environ, {"ACLPROXY_ACCESS_LOG": str(elsewhere)}), Service(
+            self.folder, conf, "--no-access-log"
+        ) as service:
             service.told("READY")
             time.sleep(0.3)
             service.process.send_signal(signal.SIGTERM)
             self.assertEqual(service.ended(), 0)
-            self.assertEqual(access_files(service.runs()[0]), [])
+            self.assertEqual((access_files(service.runs()[0]), elsewhere.exists()), ([], False))
 
     @needs_program
     def test_a_program_that_writes_none(self) -> None:
