@@ -201,6 +201,7 @@ class Watched:
         self.fault = ""
         # Whether something was counted that its file of counters lacks.
         self.changed = True
+        self.kept_at = float("-inf")
         # Whether it has ended, whether nothing more comes then, and whether all of it was counted.
         self.over = False
         self.whole = True

@@ -10,6 +10,7 @@ from aclproxyctl.counts import Counted, Counts, Watched
 
 # So often journals and access logs are read on, and the files of counters are written.
 PAUSE = 1.0
+LEAST_PAUSE = 0.01
 # Who waits for the counts waits so long at most for what is still to be read of a run; a service with more than that is counted later.
 SPAN = 0.5
 # At its end the service counts so long at most.
@@ -72,29 +73,33 @@ class Ledger:
                     one.changed = True
 
     def update(self) -> bool:
-        """Reads all runs on, and says whether each one that has ended is counted to its end."""
+        """Reads all runs on, and says whether that was all of them."""
         with self.lock:
-            for one in self.all():
-                self.count(one)
-            return not any(one.over and not one.closed for one in self.all())
+            return all([self.count(one) for one in self.all()])
 
-    def count(self, one: Watched) -> None:
-        """Reads a run on, and keeps its counts where they have changed, or are whole now."""
+    def count(self, one: Watched) -> bool:
+        """Reads a run on, and says whether that was all. Its counts are kept where they have changed, once a second at most, or are whole now."""
         if one.closed:
-            return
-        done = one.update(SPAN) and one.over
-        if self.keep and (one.changed or done) and one.run.is_dir():
-            try:
-                counters.write(one.run, one.counted(), done and one.whole)
-                one.changed = False
-                self.complaint = ""
-            except OSError as fault:
-                # Once, and not each second.
-                if str(fault) != self.complaint:
-                    self.complaint = str(fault)
-                    self.say(f"the counters cannot be kept: {fault}")
-        if done:
+            return True
+        done = one.update(SPAN)
+        over = done and one.over
+        if self.keep and (over or (one.changed and time.monotonic() - one.kept_at >= PAUSE)) and one.run.is_dir():
+            self.keep_counts(one, over and one.whole)
+        if over:
             self.settle(one)
+        return done
+
+    def keep_counts(self, one: Watched, whole: bool) -> None:
+        one.kept_at = time.monotonic()
+        try:
+            counters.write(one.run, one.counted(), whole)
+            one.changed = False
+            self.complaint = ""
+        except OSError as fault:
+            # Once, and not each second.
+            if str(fault) != self.complaint:
+                self.complaint = str(fault)
+                self.say(f"the counters cannot be kept: {fault}")
 
     def found(self) -> tuple[Optional[Path], list[Counted], Counts]:
         """What is counted by now: the run that began last, each run that has not ended, that one as the last, and the counts of all."""
@@ -109,8 +114,10 @@ class Ledger:
 
     def work(self) -> None:
         """Counts, until the service ends."""
-        while not self.ended_all.wait(PAUSE):
-            self.update()
+        pause = PAUSE
+        while not self.ended_all.wait(pause):
+            # Where more comes than is read in its span, it reads on at once.
+            pause = PAUSE if self.update() else LEAST_PAUSE
 
     def start(self) -> None:
         threading.Thread(target=self.work, name="counts", daemon=True).start()

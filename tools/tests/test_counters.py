@@ -130,7 +130,8 @@ class Books(InFolder):
         ledger.update()
         ledger.watch(self.folder / "b")
         ledger.lost(self.folder / "a", 3)
-        ledger.update()
+        with mock.patch("aclproxyctl.ledger.PAUSE", 0.0):
+            ledger.update()
         run, found, counts = ledger.found()
         self.assertEqual((run, len(found), counts.runs, counts.entries, counts.lost), (self.folder / "b", 2, 2, 40, 3))
         self.assertEqual([json.loads((self.folder / name / "counters.json").read_text())["whole"] for name in ("a", "b")], [False, False])
@@ -149,12 +150,17 @@ class Books(InFolder):
         ledger = Ledger()
         ledger.watch(self.folder / "a")
         found = []
-        with mock.patch("aclproxyctl.ledger.SPAN", 0.0):
-            for _ in range(4):
-                ledger.update()
+        with mock.patch("aclproxyctl.ledger.SPAN", 0.0), mock.patch("aclproxyctl.ledger.PAUSE", 0.0):
+            for done in (False, False, False, True):
+                self.assertIs(ledger.update(), done)
                 found.append(json.loads((self.folder / "a" / "counters.json").read_text())["standing"]["entries"])
         # The first line of the journal is no entry.
         self.assertEqual(found, [6, 13, 20, 20])
+        # Once a second at most.
+        self.file("a/journal.000003", "21 2 1764377099000 close 3 => ok\n")
+        ledger.update()
+        self.assertEqual(json.loads((self.folder / "a" / "counters.json").read_text())["standing"]["entries"], 20)
+        self.assertEqual(ledger.found()[2].entries, 21)
         ledger.close()
 
     def test_one_that_ends_with_much_left(self) -> None:
@@ -184,7 +190,8 @@ class Books(InFolder):
         said: list[str] = []
         ledger = Ledger(said.append)
         ledger.watch(self.folder / "a")
-        with mock.patch.object(counters, "write", side_effect=OSError(28, "No space left on device")):
+        full = OSError(28, "No space left on device")
+        with mock.patch.object(counters, "write", side_effect=full), mock.patch("aclproxyctl.ledger.PAUSE", 0.0):
             ledger.update()
             ledger.update()
         self.assertEqual(said, ["the counters cannot be kept: [Errno 28] No space left on device"])
