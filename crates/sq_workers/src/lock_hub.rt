@@ -193,6 +193,7 @@ impl<'a, R: Wait, D: DeskCalls, B: Ledgers, C: Clock + Drop> Hub for LockHub<'a,
         after(self.rt, room, gave)
     }
 
+    #[inline(never)]
     #[tactic(auto, using(crate::proofs::HubLaws::hub_refusals, crate::proofs::HubLaws::hub_asks))]
     fn ask(&mut self, alloc: Global, conn: ConnNo, request: Request) -> Result<CheckNo, HubFault> {
         let room = self.rooms.room;
@@ -214,6 +215,7 @@ impl<'a, R: Wait, D: DeskCalls, B: Ledgers, C: Clock + Drop> Hub for LockHub<'a,
         hub_gave(gave)
     }
 
+    #[inline(never)]
     #[tactic(auto, using(crate::proofs::HubLaws::hub_refusals))]
     fn take(&mut self, alloc: Global, check: CheckNo) -> Result<Record, HubFault> {
         let room = self.rooms.room;
