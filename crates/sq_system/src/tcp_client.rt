@@ -47,6 +47,7 @@ impl<R: Drop> Drop for RealDialer<R> {
             links: _,
             seat: _,
             look_ups: _,
+            last: _,
             faults: _,
         } = self;
     }
