@@ -9,11 +9,11 @@ ghost use Rattle.sq_turns.specs.Sessions.{TellsWhole, SessionHasCause, dry_after
 ghost use Rattle.sq_turns.specs.Steps.{front_seen};
 ghost use Rattle.sq_turns.specs.Verdicts.{refusal_of};
 
-use crate::turning::{turn, turn_end};
+use crate::turning::{tell_ended, turn};
 use sq_base::Addr;
 use sq_forward::{Duplex, Ends, Meter};
 use sq_message::Own;
-use sq_outside::{Dialer, Observed, Out, Sink};
+use sq_outside::{Dialer, Out, Sink};
 use sq_turns::{Carried, End, Front, Opened, say};
 use std::alloc::Global;
 use std::sync::Wait;
@@ -139,7 +139,7 @@ fn refuse<O: Sink>(alloc: Global, to: &mut O, own: Own) -> End
     ensures dry { dry_after_session result ≡ 0 }
 {
     let carried = say(alloc, to, own, false);
-    to.observe(&Observed::Ended(turn_end(carried)));
+    tell_ended(to, carried);
     match carried {
         Carried::Stays => End::Finished,
         Carried::Closes => End::Finished,
@@ -177,7 +177,9 @@ fn serve<R: Threads + Wait + Sync, C: Ends, F: Front, D: Dialer>(
     ensures dialer_later { D.faults dialer.old ≤ D.faults dialer.new }
 {
     for _ in rt.forever() {
-        match turn(rt, alloc, client, addr, front, dialer) {
+        let carried = turn(rt, alloc, client, addr, front, dialer);
+        tell_ended(&client.to, carried);
+        match carried {
             Carried::Stays => {}
             Carried::Closes => return End::Finished,
             Carried::Over(end) => return end,

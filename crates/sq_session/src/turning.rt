@@ -52,17 +52,15 @@ pub(crate) fn turn<R: Threads + Wait + Sync, C: Ends, F: Front, D: Dialer>(
     ensures dialled { WasTold (D.dialled dialer.old) (D.dialled dialer.new) }
     ensures calls { CallsOnce (D.calls dialer.old) (D.calls dialer.new) }
 {
-    let carried = match heard_of(next_request(rt, alloc, &mut client.from)) {
+    match heard_of(next_request(rt, alloc, &mut client.from)) {
         Heard::Asks(request) => answer(rt, alloc, client, addr, &request, front, dialer),
         Heard::Refused(own) => say(alloc, &mut client.to, own, false),
         Heard::Silent(ended) => ended,
-    };
-    client.to.observe(&Observed::Ended(turn_end(carried)));
-    carried
+    }
 }
 
-/// How a turn ended, as its link is told it.
-pub(crate) fn turn_end(carried: Carried) -> TurnEnd {
+// How a turn ended, as its link is told it.
+fn turn_end(carried: Carried) -> TurnEnd {
     match carried {
         Carried::Stays => TurnEnd::Stays,
         Carried::Closes | Carried::Over(End::Finished) => TurnEnd::Closes,
@@ -73,6 +71,11 @@ pub(crate) fn turn_end(carried: Carried) -> TurnEnd {
         Carried::Over(End::Starved) => TurnEnd::Starved,
         Carried::Over(End::WantOfMemory) => TurnEnd::WantOfMemory,
     }
+}
+
+/// Tells a link how its turn ended.
+pub(crate) fn tell_ended<O: Sink>(to: &O, carried: Carried) {
+    to.observe(&Observed::Ended(turn_end(carried)));
 }
 
 // Tells a link what its request's check came to.

@@ -21,28 +21,28 @@ pub loop-preserved : goal.loop-preserved
 loop-preserved g c =
     let inv = c.loop.invariant in
     record {
-      served = serves_more refl inv.served c.turn.ensures.dialled c.in-Stays.ensures.told
-          (λ f. rose_earlier _ _ _ f c.turn.ensures.dialer_later) (λ f. rose_later _ _ _ inv.dialer_later f);
+      served = serves_more refl inv.served c.turn-carried.ensures.dialled c.in-Stays.ensures.told
+          (λ f. rose_earlier _ _ _ f c.turn-carried.ensures.dialer_later) (λ f. rose_later _ _ _ inv.dialer_later f);
       dry = c.in-Stays.ensures.dry;
-      unseated = c.turn.ensures.unseated;
-      number = c.turn.ensures.number ∙ inv.number;
-      asked = omega (arith, inv.asked, c.turn.ensures.asked);
-      client_later = omega (arith, inv.client_later, c.turn.ensures.client_later);
-      to_later = omega (arith, inv.to_later, c.turn.ensures.to_later);
-      dialer_later = omega (arith, inv.dialer_later, c.turn.ensures.dialer_later);
+      unseated = c.turn-carried.ensures.unseated;
+      number = c.turn-carried.ensures.number ∙ inv.number;
+      asked = omega (arith, inv.asked, c.turn-carried.ensures.asked);
+      client_later = omega (arith, inv.client_later, c.turn-carried.ensures.client_later);
+      to_later = omega (arith, inv.to_later, c.turn-carried.ensures.to_later);
+      dialer_later = omega (arith, inv.dialer_later, c.turn-carried.ensures.dialer_later);
     }
 
 pub returns-in-Closes-clause-told : goal.returns-in-Closes-clause-told
 returns-in-Closes-clause-told g c =
     let inv = c.loop.invariant in
-    serves_last Closes refl inv.served c.turn.ensures.dialled c.in-Closes.ensures.told
-    (λ f. rose_earlier _ _ _ f c.turn.ensures.dialer_later) (λ f. rose_later _ _ _ inv.dialer_later f)
+    serves_last Closes refl inv.served c.turn-carried.ensures.dialled c.in-Closes.ensures.told
+    (λ f. rose_earlier _ _ _ f c.turn-carried.ensures.dialer_later) (λ f. rose_later _ _ _ inv.dialer_later f)
 
 pub returns-in-Over-clause-told : goal.returns-in-Over-clause-told
 returns-in-Over-clause-told g c =
     let inv = c.loop.invariant in
-    serves_last (Over c.in-Over.end) refl inv.served c.turn.ensures.dialled c.in-Over.ensures.told
-    (λ f. rose_earlier _ _ _ f c.turn.ensures.dialer_later) (λ f. rose_later _ _ _ inv.dialer_later f)
+    serves_last (Over c.in-Over.end) refl inv.served c.turn-carried.ensures.dialled c.in-Over.ensures.told
+    (λ f. rose_earlier _ _ _ f c.turn-carried.ensures.dialer_later) (λ f. rose_later _ _ _ inv.dialer_later f)
 
 pub returns-in-Over-clause-cause : goal.returns-in-Over-clause-cause
 returns-in-Over-clause-cause g c =
