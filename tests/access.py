@@ -26,6 +26,7 @@ from typing import Callable
 sys.dont_write_bytecode = True
 
 from chaos_parts.server import Server, free_port, reply_of, until  # noqa: E402
+from memory import LIBRARY, Control  # noqa: E402
 
 HERE = Path(__file__).resolve().parent
 PATIENCE = 30.0  # the seconds after which a wait has failed
@@ -124,11 +125,14 @@ class Bench:
     def same(self, what: str, got: object, expected: object) -> None:
         self.check(what, got == expected, f"{got!r} and not {expected!r}")
 
-    def start(self, workers: int = 4, conf: str = CONF, log: str | None = "access.log", before: Callable[[], None] | None = None) -> Server:
+    def start(
+        self, workers: int = 4, conf: str = CONF, log: str | None = "access.log", before: Callable[[], None] | None = None,
+        variables: dict[str, str] | None = None,
+    ) -> Server:
         Path("squid.conf").write_text(conf)
         self.port = free_port()
         self.seen = 0
-        more = {"ACLPROXY_MESSAGES": "messages"} | ({"ACLPROXY_ACCESS_LOG": log} if log is not None else {})
+        more = {"ACLPROXY_MESSAGES": "messages"} | ({"ACLPROXY_ACCESS_LOG": log} if log is not None else {}) | (variables or {})
         server = Server(self.program, ["squid.conf", "--port", str(self.port), "--workers", str(workers)], "journal", before, more)
         self.servers.append(server)
         said = server.hear(PATIENCE)
@@ -387,6 +391,49 @@ def no_thread(bench: Bench) -> None:
     bench.stop(server)
 
 
+def out_of_memory(bench: Bench) -> None:
+    """Requests of each of which another allocation is refused, until none is. A dial that gets no memory is told as such, a line has the
+    status that its client got, and a line for which there was no memory is counted as dropped."""
+    if shutil.which("cc") is None:
+        print("access, out of memory: left out, since there is no cc")
+        return
+    Path("refusing.c").write_text(LIBRARY)
+    subprocess.run(["cc", "-O1", "-shared", "-fPIC", "-o", "refusing.so", "refusing.c", "-ldl"], check=True)
+    control = Control(Path("control"), 0, False)
+    server = bench.start(1, variables={"LD_PRELOAD": os.path.abspath("refusing.so"), "REFUSING": os.path.abspath("control")})
+    bench.ask(bench.head("/hello"))
+    bench.next_line()
+    causes: dict[str, int] = {}
+    dropped = 0
+    for number in range(1, 1000):
+        control.refuse(number)
+        try:
+            reply = bench.ask(bench.head("/hello"))
+        except OSError:
+            reply = b""
+        control.end()
+        if not control.refused:
+            break
+        # One worker writes one line after the other, so that of the next request stands behind that of this one, if it is there.
+        bench.ask(bench.head("/behind"))
+        line = bench.next_line()
+        if line["request"].endswith("/behind"):
+            dropped += 1
+            continue
+        if not bench.next_line()["request"].endswith("/behind"):
+            raise AssertionError(f"two lines for one request: {line}")
+        status, cause = line["code"].rpartition("/")[2], line.get("cause", "none")
+        causes[cause] = causes.get(cause, 0) + 1
+        if reply and reply.split(b" ")[1] != status.encode() or status == "502" and cause != "out_of_memory":
+            bench.check(f"where allocation {number} is refused", False, (reply[:40], line))
+    bench.check("allocations that are refused", number > 10, number)
+    bench.check("causes", set(causes) <= {"none", "other", "out_of_memory"} and causes.get("out_of_memory", 0) > 0, causes)
+    bench.stop(server)
+    said = [int(match[1]) for match in map(DROPPED.fullmatch, Path("messages").read_text().splitlines()) if match]
+    # Where there is no memory for what is noted of a connection its end counts, too.
+    bench.check("lines that were dropped", 0 < dropped <= sum(said) <= 2 * dropped, (said, dropped))
+
+
 def ends(bench: Bench) -> None:
     """Links that end by a limit of time, since others wait, and since the server is stopped."""
     server = bench.start(2)
@@ -531,7 +578,7 @@ def names(bench: Bench) -> None:
     bench.stop(server)
 
 
-CHECKS = [outcomes, own_replies, redirects, faults, no_thread, escapes, pipes, files]
+CHECKS = [outcomes, own_replies, redirects, faults, no_thread, out_of_memory, escapes, pipes, files]
 # One that waits most of its time is made beside the others.
 SLOW_CHECKS = [ends]
 OWN_CHECKS = [names]

@@ -157,6 +157,16 @@ class Control:
     def begin(self) -> None:
         struct.pack_into("=Q", self.map, 0, 1)
 
+    def refuse(self, nth: int) -> None:
+        """Begins to count anew, and has this call refused."""
+        self.end()
+        struct.pack_into("=QQQQ", self.map, 8, nth, 0, 0, 0)
+        self.begin()
+
+    def end(self) -> None:
+        """Counts no more."""
+        struct.pack_into("=Q", self.map, 0, 0)
+
     @property
     def calls(self) -> int:
         return self.word(2)

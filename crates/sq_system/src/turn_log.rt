@@ -63,7 +63,7 @@ impl TurnSeen {
 
     // The next turn of the link begins.
     fn begin_next(&mut self, alloc: Global, line: &LinkStream, now: u64) {
-        self.later = self.later || !self.request.is_empty();
+        self.later = self.later || self.lost || !self.request.is_empty();
         self.request = Text::new(alloc);
         self.check = None;
         self.rule = None;
