@@ -8,8 +8,8 @@ from aclproxyctl.journal import Reader, shown
 
 
 @dataclass
-class Standing:
-    """A run in numbers. Moments are in milliseconds; helpers are those that live, by class."""
+class Tally:
+    """What a run counts. Moments are in milliseconds."""
 
     entries: int = 0
     begun: int = 0
@@ -21,6 +21,12 @@ class Standing:
     denied: int = 0
     faults: int = 0
     ended: int = 0
+
+
+@dataclass
+class Standing(Tally):
+    """A run in numbers; helpers are those that live, by class."""
+
     connections: int = 0
     checks: int = 0
     waiting: int = 0
@@ -28,19 +34,9 @@ class Standing:
 
 
 @dataclass
-class State:
+class State(Tally):
     """What a journal comes to: counts, and what is open. All words stay bytes, since a run has millions of lines."""
 
-    entries: int = 0
-    begun: int = 0
-    last: int = 0
-    epoch: int = 1
-    since: int = 0
-    requests: int = 0
-    allowed: int = 0
-    denied: int = 0
-    faults: int = 0
-    ended: int = 0
     clients: dict[bytes, Optional[bytes]] = field(default_factory=dict)
     waiting: dict[bytes, bool] = field(default_factory=dict)
     helpers: dict[bytes, bytes] = field(default_factory=dict)
