@@ -26,10 +26,12 @@ from typing import Callable
 sys.dont_write_bytecode = True
 
 from chaos_parts.server import Server, free_port, reply_of, until  # noqa: E402
+from checks import tried  # noqa: E402
 from memory import LIBRARY, Control  # noqa: E402
 
 HERE = Path(__file__).resolve().parent
 PATIENCE = 30.0  # the seconds after which a wait has failed
+SECONDS = 120  # after which a check has failed
 MORE_THAN_HEAD = 70_000  # bytes of a head that is too long
 CONF = "acl CONNECT method CONNECT\nacl SSL_ports port 1-65535\nacl denied url_regex /denied\nhttp_access deny denied\nhttp_access allow all\n"
 LINE = re.compile(
@@ -584,26 +586,6 @@ SLOW_CHECKS = [ends]
 OWN_CHECKS = [names]
 
 
-def tried(bench: Bench, check: Callable[[Bench], None], folder: str) -> bool:
-    """Whether all of a check holds."""
-    bench.what = check.__name__.replace("_", " ")
-    bench.wrong = 0
-    os.mkdir(folder)
-    os.chdir(folder)
-    signal.alarm(120)
-    try:
-        check(bench)
-    except Exception as what:  # a check that cannot be made to its end is one that failed
-        bench.wrong += 1
-        print(f"access, {bench.what}: {type(what).__name__}: {what}")
-    finally:
-        for one in bench.servers:
-            one.kill()
-        bench.servers.clear()
-    sys.stdout.flush()
-    return not bench.wrong
-
-
 def with_names(program: str) -> int:
     """Tries what needs a name server, in namespaces where this machine gives them."""
     spaces = ["unshare", "--user", "--map-root-user", "--net", "--mount"] if os.getuid() else ["unshare", "--net", "--mount"]
@@ -647,9 +629,9 @@ def main() -> int:
     signal.signal(signal.SIGALRM, give_up)
     for check in [known[name] for name in options.names] or CHECKS:
         # A check whose times do not hold is made once more: what else the machine does may have taken a second away.
-        if not tried(bench, check, os.path.join(top, check.__name__)):
+        if not tried("access", bench, check, os.path.join(top, check.__name__), SECONDS):
             print(f"access, {bench.what}: once more")
-            bench.failed += not tried(bench, check, os.path.join(top, f"{check.__name__}-again"))
+            bench.failed += not tried("access", bench, check, os.path.join(top, f"{check.__name__}-again"), SECONDS)
     signal.alarm(0)
     os.chdir("/")
     for one in beside:

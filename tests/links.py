@@ -24,9 +24,11 @@ from typing import Callable
 sys.dont_write_bytecode = True
 
 from chaos_parts.server import Server, free_port, reply_of, stat_of  # noqa: E402
+from checks import tried  # noqa: E402
 
 HERE = Path(__file__).resolve().parent
 PATIENCE = 30.0  # the seconds after which a wait has failed
+SECONDS = 400  # after which a check has failed
 PLAIN = "acl SSL_ports port 1-65535\nacl CONNECT method CONNECT\nhttp_access allow all\n"
 # Each class has a path of its own, which its helper is asked about: one that is silent, one that reads nothing, one that reads late
 # what it answers, one that answers.
@@ -667,26 +669,6 @@ SLOW_CHECKS = [[slow_head], [crowded_tunnels, last_links], [crowded_heads, many_
 LONG_CHECKS = [silence]
 
 
-def tried(bench: Bench, check: Callable[[Bench], None], folder: str) -> bool:
-    """Whether all of a check holds."""
-    bench.what = check.__name__.replace("_", " ")
-    bench.wrong = 0
-    os.mkdir(folder)
-    os.chdir(folder)
-    signal.alarm(400)
-    try:
-        check(bench)
-    except Exception as what:  # a check that cannot be made to its end is one that failed
-        bench.wrong += 1
-        print(f"links, {bench.what}: {type(what).__name__}: {what}")
-    finally:
-        for one in bench.servers:
-            one.kill()
-        bench.servers.clear()
-    sys.stdout.flush()
-    return not bench.wrong
-
-
 def main() -> int:
     global LONG
     parser = argparse.ArgumentParser(description=__doc__, formatter_class=argparse.RawDescriptionHelpFormatter)
@@ -719,9 +701,9 @@ def main() -> int:
     signal.signal(signal.SIGALRM, give_up)
     for check in [known[name] for name in options.names] or CHECKS + (LONG_CHECKS if LONG else []):
         # A check whose times do not hold is made once more: what else the machine does may have taken a second away.
-        if not tried(bench, check, os.path.join(top, check.__name__)):
+        if not tried("links", bench, check, os.path.join(top, check.__name__), SECONDS):
             print(f"links, {bench.what}: once more")
-            bench.failed += not tried(bench, check, os.path.join(top, f"{check.__name__}-again"))
+            bench.failed += not tried("links", bench, check, os.path.join(top, f"{check.__name__}-again"), SECONDS)
     os.chdir("/")
     for one in beside:
         said, _ = one.communicate()
