@@ -94,6 +94,10 @@ pub record HasCome (c : CheckParts) (v : Value) : Type 0 where
   pub keyed : (acl : ℕ) (key : List ℕ) → v ≡ value.Need acl key
       → key_text c.config acl c.sight ≡ key
 
+-- a check whose outcome was taken out
+abbrev pub emptied : CheckParts → CheckParts
+emptied c = record c { stage = stage.Ready }
+
 -- a check after so many looks more
 abbrev pub looked : ℕ → CheckParts → CheckParts
 looked k c = record c { looks = min look_limit (c.looks + k) }

@@ -19,6 +19,7 @@
 #![tactic(auto)]
 
 mod answers;
+mod check_state;
 mod conns;
 mod counts;
 mod depths;

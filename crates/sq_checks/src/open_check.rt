@@ -10,87 +10,35 @@ ghost use Rattle.sq_rules.specs.Verdicts.{verdict_over};
 ghost use Rattle.sq_rules.specs.declared.values.Value.TheVariants as value;
 ghost use Rattle.sq_checks.specs.Positions.{look_limit};
 ghost use Rattle.sq_checks.specs.Givens.{leaves_over, looks_over};
-ghost use Rattle.sq_checks.specs.OpenChecks.{HasCome, IsNoted, begun_parts, ended_by, finished, looked, noted, settled, step_more, waited};
+ghost use Rattle.sq_checks.specs.OpenChecks.{HasCome, IsNoted, begun_parts, ended_by, finished, looked, noted, settled, waited};
 ghost use Rattle.sq_checks.specs.Records.{judged_of};
 ghost use Rattle.sq_checks.specs.Stages.{decided_in, is_idle, is_settled, need_in, question_in};
 
-use crate::frames::Frames;
-use crate::going::{come_to, give_asked, given_by};
+use crate::check_state::CheckState;
 use crate::records::Record;
 use crate::slots::Slots;
-use crate::stages::{CheckStage, Need, came, decided, ended, need_of, noted, question};
-use sq_base::{
-    Answers, CheckNo, ConnNo, EpochNo, Moment, QuestionNo, Steps, Text, WantOfMemory, What,
-};
-use sq_eval::pool_of;
-use sq_machine::LAST_NUMBER;
+use crate::stages::Need;
+use sq_base::{CheckNo, ConnNo, EpochNo, Moment, QuestionNo, Steps, Text, WantOfMemory, What};
 use sq_model::StepEffect;
 use sq_rules::{Config, Facts, Outcome, Sight, Value};
 use std::alloc::Global;
 use std::marker::Model;
-use std::mem;
 use std::sync::Arc;
 use std::sync::ledger::Ledger;
 
 /// A check from its request to its outcome. Its own number is its place among the open checks.
 #[derive(Drop)]
 pub struct OpenCheck {
-    conn: ConnNo,
-    epoch: EpochNo,
-    config: Arc<Config>,
-    sight: Sight,
-    facts: Facts,
-    frames: Frames,
-    pool: Option<u32>,
-    answers: Answers,
-    stage: CheckStage,
-    steps: u64,
-    // The external acl for which it asked last.
-    asks: Option<u32>,
+    // In memory of its own, so that what hands a check on has room for its address alone on the stack.
+    state: Box<CheckState>,
 }
 
 impl Model for OpenCheck {
-    ghost use Rattle.std.specs.Arc.{arc_value};
-    ghost use Rattle.sq_checks.specs.Standing.{looks_in};
-    ghost use Rattle.sq_checks.specs.OpenChecks.{CheckParts, IsCheck};
+    ghost use Rattle.sq_checks.specs.OpenChecks.{CheckParts};
 
     ghost Value = { CheckParts };
 
-    ghost view = { λ c. record {
-      conn = c.conn;
-      epoch = c.epoch;
-      config = arc_value c.config;
-      sight = c.sight;
-      pool = c.pool;
-      answers = c.answers;
-      stage = c.stage;
-      looks = looks_in c.frames;
-      steps = c.steps;
-    } };
-
-    ghost invariant = { λ c. IsCheck
-        (record {
-          conn = c.conn;
-          epoch = c.epoch;
-          config = arc_value c.config;
-          sight = c.sight;
-          pool = c.pool;
-          answers = c.answers;
-          stage = c.stage;
-          looks = looks_in c.frames;
-          steps = c.steps;
-        }) c.facts c.frames c.asks };
-}
-
-// A step more.
-fn step_more(steps: u64) -> u64
-    ensures { result ≡ step_more steps }
-{
-    if steps < LAST_NUMBER {
-        steps + 1
-    } else {
-        LAST_NUMBER
-    }
+    ghost view = { λ c. c.state.value };
 }
 
 impl OpenCheck {
@@ -107,57 +55,46 @@ impl OpenCheck {
         requires { facts ≡ facts_of (arc_value slots.now).acls sight }
         ensures { IfOk result (λ c. c ≡ begun_parts conn epoch (arc_value slots.now) sight) }
     {
-        let config = Arc::try_clone(slots.config())?;
-        let frames = Frames::start(alloc, slots)?;
-        let pool = pool_of(&config, &facts, sight.addr);
-        Ok(OpenCheck {
-            conn,
-            epoch,
-            config,
-            sight,
-            facts,
-            frames,
-            pool,
-            answers: Answers::new(alloc),
-            stage: CheckStage::Ready,
-            steps: 0,
-            asks: None,
-        })
+        let state = CheckState::new(alloc, conn, epoch, slots, sight, facts)?;
+        match Box::new(alloc, state) {
+            Ok(state) => Ok(OpenCheck { state }),
+            Err(_) => Err(WantOfMemory),
+        }
     }
 
     /// The connection of its request.
     pub fn conn(&self) -> ConnNo
         ensures { result ≡ self.now.conn }
     {
-        self.conn
+        self.state.conn()
     }
 
     /// The epoch in which it began.
     pub fn epoch(&self) -> EpochNo
         ensures { result ≡ self.now.epoch }
     {
-        self.epoch
+        self.state.epoch()
     }
 
     /// The configuration of its epoch.
     pub fn config(&self) -> &Arc<Config>
         ensures { arc_value result.now ≡ self.now.config }
     {
-        &self.config
+        self.state.config()
     }
 
     /// What it sees.
     pub fn sight(&self) -> &Sight
         ensures { result.now ≡ self.now.sight }
     {
-        &self.sight
+        self.state.sight()
     }
 
     /// The question that it waits for, if it waits.
     pub fn question(&self) -> Option<QuestionNo>
         ensures { result ≡ question_in self.now.stage }
     {
-        question(&self.stage)
+        self.state.question()
     }
 
     /// What it waits for, if it waits: the question, and the class and key that it is for, of which it has no
@@ -171,7 +108,7 @@ impl OpenCheck {
             (λ n. self.now.looks ≡ looks_over self.now.answers self.now.config self.now.sight) }
         ensures few { self.now.looks ≤ look_limit }
     {
-        need_of(&self.stage)
+        self.state.need()
     }
 
     /// The outcome, where a step said that it is done: the verdict of its configuration over what it sees and its
@@ -181,14 +118,14 @@ impl OpenCheck {
         ensures verdict { IfSome (decided_in self.now.stage)
             (λ o. verdict_over self.now.answers self.now.config self.now.sight ≡ value.Verdict o) }
     {
-        decided(&self.stage)
+        self.state.outcome()
     }
 
     /// Whether no answer is left that came and is not put among the others.
     pub fn is_settled(&self) -> bool
         ensures { result ≡ is_settled self.now.stage }
     {
-        !matches!(self.stage, CheckStage::Came(_))
+        self.state.is_settled()
     }
 
     /// What it comes to over its answers: the verdict, or the need of an answer that it does not have. It goes on from
@@ -205,33 +142,16 @@ impl OpenCheck {
             × (steps.new ≡ steps.old + k) × (self.new ≡ looked k self.old) }
         ensures come { IfOk result (HasCome self.new) }
     {
-        come_to(
-            alloc,
-            &mut self.frames,
-            &self.config,
-            &self.facts,
-            &self.sight,
-            &self.answers,
-            steps,
-        )
+        self.state.come_to(alloc, steps)
     }
 
     /// Puts the answer that came among the others, if one did. It takes a copy, since a push that fails gives
     /// nothing back.
-    // Where the rules stopped at the acl for which was asked, it is given the value of the answer, so that they go on
-    // from there without its key. What it is given, no clause says.
     pub fn settle(&mut self, alloc: Global) -> Result<(), WantOfMemory>
         ensures ok { OnOk result (self.new ≡ settled self.old) }
         ensures err { OnErr result (self.new ≡ self.old) }
     {
-        let Some(answer) = came(alloc, &self.stage)? else {
-            return Ok(());
-        };
-        let value = given_by(&answer.what);
-        self.answers.push(answer)?;
-        self.stage = CheckStage::Ready;
-        give_asked(&mut self.frames, self.asks, value);
-        Ok(())
+        self.state.settle(alloc)
     }
 
     /// Takes what a step says that asked for the external acl at this place, which is of this class and key: the
@@ -247,21 +167,14 @@ impl OpenCheck {
             ≡ looks_over self.old.answers self.old.config self.old.sight }
         ensures { self.new ≡ noted said class key self.old }
     {
-        let StepEffect {
-            stepped,
-            took,
-            put: _,
-        } = said;
-        self.asks = Some(acl);
-        self.stage = noted(took, stepped.question(), class, key);
-        self.steps = step_more(self.steps);
+        self.state.note(said, acl, class, key)
     }
 
     /// Counts a step of a check that waits, and waits on. It takes no memory.
     pub fn wait_on(&mut self)
         ensures { self.new ≡ waited self.old }
     {
-        self.steps = step_more(self.steps);
+        self.state.wait_on()
     }
 
     /// Takes the verdict to which a step came. It takes no memory.
@@ -270,16 +183,14 @@ impl OpenCheck {
         requires verdict { HasCome self.old (value.Verdict outcome) }
         ensures { self.new ≡ finished outcome self.old }
     {
-        self.stage = CheckStage::Done(outcome);
-        self.steps = step_more(self.steps);
+        self.state.finish(outcome)
     }
 
     /// Takes what a question ended with at a moment, where it waits for that one. It takes no memory.
     pub fn serve(&mut self, question: QuestionNo, what: What, now: Moment)
         ensures { self.new ≡ ended_by question what now self.old }
     {
-        let stage = mem::replace(&mut self.stage, CheckStage::Ready);
-        self.stage = ended(stage, question, what, now);
+        self.state.serve(question, what, now)
     }
 
     /// What is left of it, under its number, when its outcome is taken. It takes no memory.
@@ -287,34 +198,7 @@ impl OpenCheck {
         requires { is_some (decided_in self.stage) ≡ true }
         ensures { IfSome (decided_in self.stage) (λ o. result ≡ judged_of check o self) }
     {
-        let OpenCheck {
-            conn: _,
-            epoch,
-            config,
-            sight,
-            facts,
-            frames,
-            pool,
-            answers,
-            stage,
-            steps,
-            asks: _,
-        } = self;
-        let looks = frames.looks();
-        match stage {
-            CheckStage::Done(outcome) => Record {
-                check,
-                epoch,
-                config,
-                sight,
-                facts,
-                answers,
-                outcome,
-                pool,
-                looks,
-                steps,
-            },
-            _ => unreachable!(),
-        }
+        let OpenCheck { state } = self;
+        Record::new(check, state)
     }
 }

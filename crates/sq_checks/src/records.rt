@@ -1,11 +1,14 @@
 //! Checks whose outcomes were taken.
-ghost use Rattle.std.specs.Prelude.{◌≡◌, true, IfSome};
+ghost use Rattle.std.specs.Prelude.{◌≡◌, true, IfSome, is_some};
 ghost use Rattle.std.specs.Arc.{arc_value};
 ghost use Rattle.sq_rules.specs.Facts.{facts_of};
 ghost use Rattle.sq_rules.specs.Verdicts.{pool_of, verdict_over};
 ghost use Rattle.sq_rules.specs.declared.values.Value.TheVariants as value;
 ghost use Rattle.sq_checks.specs.Givens.{looks_over};
+ghost use Rattle.sq_checks.specs.Records.{judged_of};
+ghost use Rattle.sq_checks.specs.Stages.{decided_in};
 
+use crate::check_state::CheckState;
 use sq_base::{Answers, CheckNo, EpochNo};
 use sq_rules::{Config, Facts, Outcome, Sight};
 use std::marker::Model;
@@ -14,16 +17,10 @@ use std::sync::Arc;
 /// A check that is over, with the facts of what it saw. Its outcome is the verdict of its configuration over that
 /// and its answers.
 pub struct Record {
-    pub(crate) check: CheckNo,
-    pub(crate) epoch: EpochNo,
-    pub(crate) config: Arc<Config>,
-    pub(crate) sight: Sight,
-    pub(crate) facts: Facts,
-    pub(crate) answers: Answers,
-    pub(crate) outcome: Outcome,
-    pub(crate) pool: Option<u32>,
-    pub(crate) looks: u64,
-    pub(crate) steps: u64,
+    check: CheckNo,
+    outcome: Outcome,
+    // What is left of the check, without its outcome.
+    state: Box<CheckState>,
 }
 
 // Written out, so that the drops of its parts are proved here alone, and not in each crate that lets a record go.
@@ -31,54 +28,43 @@ impl Drop for Record {
     fn drop(self) {
         let Record {
             check: _,
-            epoch: _,
-            config: _,
-            sight: _,
-            facts: _,
-            answers: _,
             outcome: _,
-            pool: _,
-            looks: _,
-            steps: _,
+            state: _,
         } = self;
     }
 }
 
 impl Model for Record {
-    ghost use Rattle.std.specs.Arc.{arc_value};
-    ghost use Rattle.sq_checks.specs.Records.{IsJudged, Judged};
+    ghost use Rattle.sq_checks.specs.Records.{IsJudged, Judged, judged_of};
+    ghost use Rattle.sq_rules.specs.Facts.{facts_of};
 
     ghost Value = { Judged };
 
-    ghost view = { λ r. record {
-      check = r.check;
-      epoch = r.epoch;
-      config = arc_value r.config;
-      sight = r.sight;
-      answers = r.answers;
-      outcome = r.outcome;
-      pool = r.pool;
-      looks = r.looks;
-      steps = r.steps;
-    } };
+    ghost view = { λ r. judged_of r.check r.outcome r.state.value };
 
-    ghost invariant = { λ r. IsJudged
-        (record {
-          check = r.check;
-          epoch = r.epoch;
-          config = arc_value r.config;
-          sight = r.sight;
-          answers = r.answers;
-          outcome = r.outcome;
-          pool = r.pool;
-          looks = r.looks;
-          steps = r.steps;
-        })
-        r.facts };
+    ghost invariant = { λ r. IsJudged (judged_of r.check r.outcome r.state.value)
+        (facts_of r.state.value.config.acls r.state.value.sight) };
 }
 
 impl Record {
     ghost use Rattle.sq_checks.specs.Records.{takes_client};
+
+    /// The record of a check that is done, under its number. It takes no memory.
+    pub(crate) fn new(check: CheckNo, state: Box<CheckState>) -> Record
+        requires { is_some (decided_in state.value.stage) ≡ true }
+        ensures { IfSome (decided_in state.value.stage)
+            (λ o. result ≡ judged_of check o state.value) }
+    {
+        let mut state = state;
+        // For the proof: its pool is that of what it saw.
+        let _pool = state.pool();
+        let outcome = state.take_outcome();
+        Record {
+            check,
+            outcome,
+            state,
+        }
+    }
 
     /// Its number.
     pub fn check(&self) -> CheckNo
@@ -91,35 +77,35 @@ impl Record {
     pub fn epoch(&self) -> EpochNo
         ensures { result ≡ self.now.epoch }
     {
-        self.epoch
+        self.state.epoch()
     }
 
     /// The configuration of its epoch.
     pub fn config(&self) -> &Arc<Config>
         ensures { arc_value result.now ≡ self.now.config }
     {
-        &self.config
+        self.state.config()
     }
 
     /// What it saw.
     pub fn sight(&self) -> &Sight
         ensures { result.now ≡ self.now.sight }
     {
-        &self.sight
+        self.state.sight()
     }
 
     /// Whether each leaf of its configuration held over what it saw.
     pub fn facts(&self) -> &Facts
         ensures { result.now ≡ facts_of self.now.config.acls self.now.sight }
     {
-        &self.facts
+        self.state.facts()
     }
 
     /// The answers of helpers that it took, in their order.
     pub fn answers(&self) -> &Answers
         ensures { result.now ≡ self.now.answers }
     {
-        &self.answers
+        self.state.answers()
     }
 
     /// What it came to.
@@ -138,7 +124,7 @@ impl Record {
         ensures takes { IfSome result
             (λ p. takes_client self.now.config.pools self.now.sight.addr p ≡ true) }
     {
-        self.pool
+        self.state.pool()
     }
 
     /// How many facts were looked at in all its steps: as many as the walk of its verdict has leaf acls, each place
@@ -147,13 +133,13 @@ impl Record {
         ensures value { result ≡ self.now.looks }
         ensures walk { result ≡ looks_over self.now.answers self.now.config self.now.sight }
     {
-        self.looks
+        self.state.looks()
     }
 
     /// How often it was stepped; 2^63 - 1 stands for more, too.
     pub fn steps(&self) -> u64
         ensures { result ≡ self.now.steps }
     {
-        self.steps
+        self.state.steps()
     }
 }

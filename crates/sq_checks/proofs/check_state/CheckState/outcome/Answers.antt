@@ -2,7 +2,7 @@ use Rattle.std.proofs.Common.{subst}
 use Rattle.sq_checks.specs.OpenChecks.{CheckParts}
 use Rattle.sq_checks.specs.Stages.{IsStage}
 use Rattle.sq_checks.proofs.CheckLaws.{decided_is}
-use Rattle.sq_checks.proofs.open_check.OpenCheck.outcome.Goals as goal
+use Rattle.sq_checks.proofs.check_state.CheckState.outcome.Goals as goal
 
 pub returns-clause-verdict : goal.returns-clause-verdict
 returns-clause-verdict c =

@@ -5,7 +5,7 @@ use Rattle.sq_checks.specs.OpenChecks.{CheckParts}
 use Rattle.sq_checks.specs.Stages.{IsLooked, IsStage}
 use Rattle.sq_checks.proofs.CheckLaws.{need_looked, need_new}
 use Rattle.sq_checks.proofs.GivenLaws.{limit_looks}
-use Rattle.sq_checks.proofs.open_check.OpenCheck.need.Goals as goal
+use Rattle.sq_checks.proofs.check_state.CheckState.need.Goals as goal
 
 pub returns-clause-other : goal.returns-clause-other
 returns-clause-other c =

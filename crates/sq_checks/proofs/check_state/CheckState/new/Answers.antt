@@ -6,7 +6,7 @@ use Rattle.sq_checks.proofs.FrameLaws.{none_looked}
 use Rattle.sq_checks.specs.Standing.{looks_in}
 use Rattle.sq_checks.proofs.CheckLaws.{begun_is}
 use Rattle.sq_checks.proofs.GivenLaws.{frames_first}
-use Rattle.sq_checks.proofs.open_check.OpenCheck.new.Goals as goal
+use Rattle.sq_checks.proofs.check_state.CheckState.new.Goals as goal
 
 pub invariant_of-result : goal.invariant_of-result
 invariant_of-result c =

@@ -9,7 +9,7 @@ use Rattle.sq_checks.specs.Givens.{AreFrames}
 use Rattle.sq_checks.specs.Stages.{IsOf, came_in}
 use Rattle.sq_checks.proofs.CheckLaws.{came_asked, came_new}
 use Rattle.sq_checks.proofs.GivenLaws.{asked_taken, frames_stay}
-use Rattle.sq_checks.proofs.open_check.OpenCheck.settle.Goals as goal
+use Rattle.sq_checks.proofs.check_state.CheckState.settle.Goals as goal
 
 pub invariant_of-self-2 : goal.invariant_of-self-2
 invariant_of-self-2 c =

@@ -9,7 +9,7 @@ use Rattle.sq_checks.specs.Stages.{is_settled}
 use Rattle.sq_checks.proofs.CheckLaws.{comes_settled, looked_on, need_idle, ok_then_both}
 use Rattle.sq_checks.proofs.GivenLaws.{frames_few}
 use Rattle.sq_checks.proofs.NeedLaws.{need_is_keyed, need_is_new}
-use Rattle.sq_checks.proofs.open_check.OpenCheck.come_to.Goals as goal
+use Rattle.sq_checks.proofs.check_state.CheckState.come_to.Goals as goal
 
 pub invariant_of-self : goal.invariant_of-self
 invariant_of-self g c =

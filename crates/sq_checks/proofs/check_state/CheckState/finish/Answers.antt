@@ -6,7 +6,7 @@ use Rattle.sq_checks.specs.Standing.{looks_in}
 use Rattle.sq_checks.specs.OpenChecks.{CheckParts, HasCome}
 use Rattle.sq_checks.specs.Stages.{is_settled}
 use Rattle.sq_checks.proofs.CheckLaws.{comes_settled}
-use Rattle.sq_checks.proofs.open_check.OpenCheck.finish.Goals as goal
+use Rattle.sq_checks.proofs.check_state.CheckState.finish.Goals as goal
 
 pub invariant_of-self : goal.invariant_of-self
 invariant_of-self c =
