@@ -26,6 +26,7 @@ use sq_rules::{Peer, Sight};
 use std::alloc::Global;
 
 // Begins a check in the epoch of a configuration, under a number above all that are open.
+#[inline(never)]
 fn begin(
     alloc: Global,
     checks: &mut OpenChecks,

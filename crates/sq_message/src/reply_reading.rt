@@ -27,8 +27,12 @@ pub fn read_reply_head(alloc: Global, head: &[u8]) -> Result<ReplyHead, ReplyHea
     if head.len() > MOST_BYTES {
         return Err(ReplyHeadFault::BadHead);
     }
-    let mut room = [EMPTY_HEADER_SPAN; MOST_FIELDS];
-    let Some(spans) = parse_whole(head, &mut room) else {
+    // The spans are no part of the stack on which a connection is served.
+    let Ok(mut room) = vec![in alloc; EMPTY_HEADER_SPAN; MOST_FIELDS] else {
+        return Err(ReplyHeadFault::WantOfMemory);
+    };
+    let room = room.as_mut_slice();
+    let Some(spans) = parse_whole(head, room) else {
         return Err(ReplyHeadFault::BadHead);
     };
     let reason = Text::from_slice(alloc, spans.reason.of(head))?;

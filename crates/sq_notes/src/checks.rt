@@ -68,6 +68,7 @@ fn ready<J: Journal>(
 }
 
 /// A request arrives on a connection, and its check begins.
+#[inline(never)]
 pub fn ask<J: Journal>(
     engine: &mut Engine,
     notes: &mut Notes<J>,

@@ -17,6 +17,7 @@ use sq_journal::Journal;
 use sq_machine::{Entry, Event, Told, later};
 
 /// A client's connection opens, and a place is made for its close.
+#[inline(never)]
 pub fn open<J: Journal>(
     engine: &mut Engine,
     notes: &mut Notes<J>,
@@ -50,6 +51,7 @@ pub fn open<J: Journal>(
 }
 
 /// A connection closes. The place is there.
+#[inline(never)]
 pub fn close<J: Journal>(
     engine: &mut Engine,
     notes: &mut Notes<J>,

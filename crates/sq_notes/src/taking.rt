@@ -36,6 +36,7 @@ fn outcome_copy(alloc: Global, engine: &Engine, check: CheckNo) -> Result<Outcom
 }
 
 /// The outcome of a check is taken, and the check is over.
+#[inline(never)]
 pub fn take<J: Journal>(
     engine: &mut Engine,
     notes: &mut Notes<J>,

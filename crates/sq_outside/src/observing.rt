@@ -1,5 +1,5 @@
 //! What comes of the turns of a connection, as it is told to the link of the client.
-use sq_base::{Addr, CheckNo, ConnNo, Request};
+use sq_base::{Addr, CheckNo, ConnNo, Request, Text};
 
 /// Why a dial gave no link.
 #[derive(Clone, Copy, Debug, PartialEq, Eq)]
@@ -89,16 +89,19 @@ pub enum Observed<'a> {
     },
     /// A request came.
     Asked(&'a Request),
-    /// Its check is over: whether it is allowed, and by which rule, from 1, if by one.
+    /// Its check is over: whether it is allowed, by which rule, from 1, if by one, and the first tag that helpers gave it, if any.
     Judged {
         check: CheckNo,
         allow: bool,
         rule: Option<u32>,
+        tag: Option<&'a Text>,
     },
     /// This request goes on in its place.
     Rewritten(&'a Request),
     /// The head of a final reply with this status is sent next.
     Replies(u16),
+    /// The next reply is the proxy's own, since there was no memory.
+    OutOfMemory,
     /// The origin's reply is none that can be passed on.
     NoReply,
     /// The dial of this turn is over.

@@ -8,7 +8,7 @@ ghost use Rattle.sq_turns.specs.Steps.{EndHasCause, WasTold, dry_after, turn_see
 ghost use Rattle.sq_turns.specs.Told.{TurnTold, AnswersTold, ObeysTold};
 ghost use Rattle.sq_forward.specs.Exchanges.{message};
 
-use sq_base::{Addr, Request};
+use sq_base::{Addr, Pair, Request, Text, What};
 use sq_checks::Record;
 use sq_forward::{Duplex, Ends, Meter};
 use sq_outside::{Dialer, Observed, Sink, TurnEnd};
@@ -78,6 +78,27 @@ pub(crate) fn tell_ended<O: Sink>(to: &O, carried: Carried) {
     to.observe(&Observed::Ended(turn_end(carried)));
 }
 
+// The pairs of an answer.
+fn pairs_of(what: &What) -> &[Pair] {
+    match what {
+        What::Yes(pairs) => pairs.as_slice(),
+        What::No(pairs) => pairs.as_slice(),
+        What::Fault(_) => &[],
+    }
+}
+
+// The first tag in the answers of a check, which are in the order in which its rules asked for them.
+fn tag_of(judged: &Record) -> Option<&Text> {
+    for answer in judged.answers().as_slice() {
+        for pair in pairs_of(&answer.what) {
+            if pair.key.as_bytes() == b"tag".as_slice() {
+                return Some(&pair.value);
+            }
+        }
+    }
+    None
+}
+
 // Tells a link what its request's check came to.
 fn tell_judged<O: Sink>(to: &O, judged: &Record) {
     let outcome = judged.outcome();
@@ -94,6 +115,7 @@ fn tell_judged<O: Sink>(to: &O, judged: &Record) {
         check: judged.check(),
         allow: outcome.allow,
         rule,
+        tag: tag_of(judged),
     });
 }
 
@@ -147,6 +169,7 @@ fn answer<R: Threads + Wait + Sync, C: Ends, F: Front, D: Dialer>(
 }
 
 // Does what a record says of its request.
+#[inline(never)]
 fn obey<R: Threads + Wait + Sync, C: Ends, F: Front, D: Dialer>(
     rt: &R,
     alloc: Global,

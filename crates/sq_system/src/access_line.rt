@@ -240,6 +240,10 @@ fn put_numbers(
     if let Some(rule) = seen.rule() {
         put_field(to, b" rule=", u64::from(rule))?;
     }
+    if !seen.tag().is_empty() {
+        to.append(b" tag=")?;
+        to.append(seen.tag())?;
+    }
     if let Some(cause) = cause {
         to.append(b" cause=")?;
         to.append(cause.name())?;

@@ -62,15 +62,15 @@ fn fault_of(error: &io::Error) -> DialFault {
     }
 }
 
+// A socket that is connected has a peer and no error, so that mostly one question to the system is enough.
 fn state_of(stream: &Trying) -> Came {
-    match stream.take_error() {
-        Ok(None) => {}
-        Ok(Some(error)) => return Came::Failed(fault_of(&error)),
-        Err(error) => return Came::Failed(fault_of(&error)),
+    if stream.peer_addr().is_ok() {
+        return Came::Connected;
     }
-    match stream.peer_addr() {
-        Ok(_) => Came::Connected,
-        Err(_) => Came::Nothing,
+    match stream.take_error() {
+        Ok(None) => Came::Nothing,
+        Ok(Some(error)) => Came::Failed(fault_of(&error)),
+        Err(error) => Came::Failed(fault_of(&error)),
     }
 }
 
@@ -263,7 +263,8 @@ fn run<R: Net + Clock>(
             race.lose(time);
             return Err(DialFault::TimedOut);
         }
-        if wanting.is_over() {
+        // Before anything was tried the system is not asked whether the client is still there.
+        if wanting.has_ended() || (at > 0 && wanting.is_over()) {
             return Err(wanting.fault());
         }
         if spent >= GIVES_WAY && race.is_late() && wanting.is_crowded() {

@@ -247,6 +247,16 @@ impl<'a> Wanting<'a> {
         }
     }
 
+    /// Whether nobody wants it any more, as far as the system need not be asked: the server is stopped, or the doorkeeper has shut
+    /// the client's link.
+    pub(crate) fn has_ended(&self) -> bool {
+        match self {
+            Wanting::Rule(Some(house)) => house.is_stopped(),
+            Wanting::Dial(Some(client), _) => client.is_ended(),
+            _ => false,
+        }
+    }
+
     /// Whether nobody wants it any more: the server is stopped, or the client has reset its link.
     pub(crate) fn is_over(&self) -> bool {
         match self {

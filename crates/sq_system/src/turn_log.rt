@@ -5,6 +5,7 @@
 
 use crate::access_line::{LineTimes, LinkState, TurnCause, cause_of, line_of, request_words};
 use crate::access_log::AccessLog;
+use crate::line_text::put_word;
 use crate::link_stream::{LinkStream, LinkWatch};
 use sq_addr::print_addr;
 use sq_base::{Addr, Request, Text, WantOfMemory};
@@ -19,6 +20,8 @@ pub(crate) struct TurnSeen {
     // The address of the client, and the method and target of the request; empty where none came.
     client: Text,
     request: Text,
+    // The tag of its check; empty where it has none.
+    tag: Text,
     conn: u64,
     check: Option<u64>,
     rule: Option<u32>,
@@ -32,6 +35,8 @@ pub(crate) struct TurnSeen {
     denied: bool,
     connect: bool,
     no_reply: bool,
+    // Whether the proxy replied by itself since there was no memory.
+    no_memory: bool,
     origin_cut: bool,
     // Whether the memory for its line was wanting.
     lost: bool,
@@ -44,6 +49,7 @@ impl TurnSeen {
         Ok(TurnSeen {
             client: print_addr(alloc, addr)?,
             request: Text::new(alloc),
+            tag: Text::new(alloc),
             conn,
             check: None,
             rule: None,
@@ -55,6 +61,7 @@ impl TurnSeen {
             denied: false,
             connect: false,
             no_reply: false,
+            no_memory: false,
             origin_cut: false,
             lost: false,
             later: false,
@@ -65,6 +72,7 @@ impl TurnSeen {
     fn begin_next(&mut self, alloc: Global, line: &LinkStream, now: u64) {
         self.later = self.later || self.lost || !self.request.is_empty();
         self.request = Text::new(alloc);
+        self.tag = Text::new(alloc);
         self.check = None;
         self.rule = None;
         self.dial = None;
@@ -75,6 +83,7 @@ impl TurnSeen {
         self.denied = false;
         self.connect = false;
         self.no_reply = false;
+        self.no_memory = false;
         self.origin_cut = false;
         self.lost = false;
     }
@@ -93,16 +102,32 @@ impl TurnSeen {
         self.request = words;
     }
 
+    // The check has this tag.
+    fn tag_with(&mut self, alloc: Global, tag: &Text) {
+        let mut word = Text::new(alloc);
+        self.lost = self.lost || put_word(&mut word, tag.as_bytes()).is_err();
+        self.tag = word;
+    }
+
     // Notes what happens within a turn.
     fn note(&mut self, alloc: Global, line: &LinkStream, what: &Observed) {
         match what {
             Observed::Asked(request) => self.ask(alloc, request, line.last()),
-            Observed::Judged { check, allow, rule } => {
+            Observed::Judged {
+                check,
+                allow,
+                rule,
+                tag,
+            } => {
                 self.check = Some(check.0);
                 self.denied = !*allow;
                 self.rule = *rule;
+                if let Some(tag) = tag {
+                    self.tag_with(alloc, tag);
+                }
             }
             Observed::Replies(status) => self.status = *status,
+            Observed::OutOfMemory => self.no_memory = true,
             Observed::NoReply => self.no_reply = true,
             Observed::Dialled(dial) => {
                 self.dial = Some(*dial);
@@ -120,6 +145,11 @@ impl TurnSeen {
     /// The method and the target, as the line has them; nothing where no request came.
     pub(crate) fn request(&self) -> &[u8] {
         self.request.as_bytes()
+    }
+
+    /// The tag of its check, as the line has it; nothing where it has none.
+    pub(crate) fn tag(&self) -> &[u8] {
+        self.tag.as_bytes()
     }
 
     pub(crate) fn conn(&self) -> u64 {
@@ -180,7 +210,9 @@ impl TurnSeen {
 
     /// Why the proxy replied by itself, where no dial and no rule tells it.
     pub(crate) fn own_cause(&self) -> Option<TurnCause> {
-        if self.status == 500 && self.is_own() {
+        if self.no_memory {
+            Some(TurnCause::Dial(DialFault::OutOfMemory))
+        } else if self.status == 500 && self.is_own() {
             Some(TurnCause::Dial(DialFault::Other))
         } else {
             None

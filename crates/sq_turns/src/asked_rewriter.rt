@@ -17,6 +17,7 @@ use std::alloc::Global;
 use std::sync::Wait;
 
 /// Puts the question about the request of a record to the rewriter, and waits until it has ended.
+#[inline(never)]
 pub(crate) fn rewrite<R: Wait, H: Hub>(
     rt: &R,
     alloc: Global,

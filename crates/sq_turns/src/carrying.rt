@@ -27,6 +27,7 @@ use std::thread::Threads;
 /// the seat and the dial, of which there is one at most. Of the heads go on the fields that the configuration of
 /// the record allows, by what its check saw. The seat and the dial are given back. It may wait as
 /// long as a source gives bytes.
+#[inline(never)]
 pub(crate) fn carry<R: Threads + Wait + Sync, C: Ends, F: Front, D: Dialer>(
     rt: &R,
     alloc: Global,
@@ -94,6 +95,7 @@ fn link_use(sent: &Request) -> LinkUse
 }
 
 // Dials the origin, forwards the request, and gives the dial back.
+#[inline(never)]
 fn reach<R: Threads + Wait + Sync, C: Ends, M: Meter, D: Dialer>(
     rt: &R,
     alloc: Global,

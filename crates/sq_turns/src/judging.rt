@@ -18,6 +18,7 @@ use std::alloc::Global;
 use std::sync::Wait;
 
 /// Asks about a request of this connection, and waits until its check is over.
+#[inline(never)]
 pub(crate) fn judge<R: Wait, H: Hub>(
     rt: &R,
     alloc: Global,
@@ -48,6 +49,7 @@ pub(crate) fn judge<R: Wait, H: Hub>(
 }
 
 // Steps a check until it is done, and takes its record.
+#[inline(never)]
 fn finish<R: Wait, H: Hub>(
     rt: &R,
     alloc: Global,

@@ -28,6 +28,9 @@ pub fn say<O: Sink>(alloc: Global, to: &mut O, own: Own, no_body: bool) -> Carri
     ensures later { O.faults to.old ≤ O.faults to.new }
     ensures dry { dry_after result ≡ 0 }
 {
+    if let Own::NoMemory = own {
+        to.observe(&Observed::OutOfMemory);
+    }
     let Ok(text) = error_text(alloc, own, no_body) else {
         return Carried::Over(End::WantOfMemory);
     };

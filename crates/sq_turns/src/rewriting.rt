@@ -22,6 +22,7 @@ use std::thread::Threads;
 
 /// Takes an allowed request further: to its origin, as it is or as another one in its place, or its client elsewhere.
 /// The rewriter is asked about each but CONNECT.
+#[inline(never)]
 pub fn go_on<R: Threads + Wait + Sync, C: Ends, F: Front, D: Dialer>(
     rt: &R,
     alloc: Global,

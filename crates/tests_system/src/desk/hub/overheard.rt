@@ -59,7 +59,12 @@ fn put(wire: &Wire, what: &Observed) {
             wire.put(b"asked ");
             wire.put(request.target.as_bytes());
         }
-        Observed::Judged { check, allow, rule } => {
+        Observed::Judged {
+            check,
+            allow,
+            rule,
+            tag,
+        } => {
             wire.put(b"check ");
             put_number(wire, check.0);
             wire.put(if *allow {
@@ -71,6 +76,10 @@ fn put(wire: &Wire, what: &Observed) {
                 wire.put(b" ");
                 put_number(wire, u64::from(*rule));
             }
+            if let Some(tag) = tag {
+                wire.put(b" tag ");
+                wire.put(tag.as_bytes());
+            }
         }
         Observed::Rewritten(request) => {
             wire.put(b"rewritten ");
@@ -80,6 +89,7 @@ fn put(wire: &Wire, what: &Observed) {
             wire.put(b"replies ");
             put_number(wire, u64::from(*status));
         }
+        Observed::OutOfMemory => wire.put(b"out of memory"),
         Observed::NoReply => wire.put(b"no reply"),
         Observed::Dialled(_) => wire.put(b"dialled"),
         Observed::Ended(end) => wire.put(word_of(*end)),
