@@ -36,9 +36,29 @@ MORE_THAN_HEAD = 70_000  # bytes of a head that is too long
 CONF = "acl CONNECT method CONNECT\nacl SSL_ports port 1-65535\nacl denied url_regex /denied\nhttp_access deny denied\nhttp_access allow all\n"
 LINE = re.compile(
     r"(?P<moment>[0-9]+\.[0-9]{3}) (?P<elapsed> *[0-9]+) (?P<client>\S+) (?P<code>[A-Z_]+/[0-9]{3}) (?P<bytes>[0-9]+) (?P<request>\S+ \S+) - "
-    r"(?P<way>\S+) (?P<type>\S+) conn=(?P<conn>[0-9]+)(?: check=(?P<check>[0-9]+))?(?: rule=(?P<rule>[0-9]+))?(?: cause=(?P<cause>[a-z_]+))?"
+    r"(?P<way>\S+) (?P<type>\S+) conn=(?P<conn>[0-9]+)(?: check=(?P<check>[0-9]+))?(?: rule=(?P<rule>[0-9]+))?(?: tag=(?P<tag>[!-~]+))?(?: cause=(?P<cause>[a-z_]+))?"
     r" in=(?P<in>[0-9]+)(?: up=(?P<up>[0-9]+) down=(?P<down>[0-9]+))?"
 )
+# A helper that names a tag by the path, and rules that ask it for two words of which the second one has another tag.
+TAGGING = """#!/bin/sh
+while read -r path word rest; do
+    case $path$word in
+    /plainfirst) echo OK ;;
+    *second) echo 'OK tag=second' ;;
+    /denied*) echo 'ERR tag=denied' ;;
+    /odd*) printf '%s\\n' 'OK user=a tag="a \\"b%20" tag=later' ;;
+    /empty*) echo 'OK tag=' ;;
+    /broken*) echo 'BH tag=broken' ;;
+    *) echo 'OK tag=first' ;;
+    esac
+done
+"""
+TAGS = """external_acl_type who ttl=0 negative_ttl=0 %>rp ./helper.sh
+acl first external who first
+acl second external who second
+http_access deny !first
+http_access allow second
+"""
 DROPPED = re.compile(r"access log: ([0-9]+) lines were dropped")
 
 
@@ -312,6 +332,22 @@ def own_replies(bench: Bench) -> None:
     bench.verify()
 
 
+def tags(bench: Bench) -> None:
+    """A line has the first tag that helpers gave the request, allowed or denied, escaped, and none where they gave none."""
+    Path("helper.sh").write_text(TAGGING)
+    Path("helper.sh").chmod(0o755)
+    server = bench.start(conf=TAGS)
+    for path, rule, tag in (
+        ("/hello", "2", "first"), ("/plain", "2", "second"), ("/denied", "1", "denied"), ("/odd", "2", "a%20%22b%20"), ("/empty", "2", "-"),
+        ("/broken", "1", None),
+    ):
+        bench.ask(bench.head(path))
+        line = bench.next_line()
+        bench.same(f"the tag of {path}", (line.get("rule"), line.get("tag")), (rule, tag))
+    bench.stop(server)
+    bench.verify()
+
+
 def redirects(bench: Bench) -> None:
     """A redirect of the rewriter, and a request that goes on in another's place, whose line has the target that the client asked for."""
     Path("rewriter").write_text(
@@ -394,8 +430,8 @@ def no_thread(bench: Bench) -> None:
 
 
 def out_of_memory(bench: Bench) -> None:
-    """Requests of each of which another allocation is refused, until none is. A dial that gets no memory is told as such, a line has the
-    status that its client got, and a line for which there was no memory is counted as dropped."""
+    """Requests of each of which another allocation is refused, until none is. A dial that gets no memory and a reply of the proxy's
+    own for want of memory have it as their cause, a line has the status that its client got, and a line for which there was no memory is counted as dropped."""
     if shutil.which("cc") is None:
         print("access, out of memory: left out, since there is no cc")
         return
@@ -426,10 +462,10 @@ def out_of_memory(bench: Bench) -> None:
             raise AssertionError(f"two lines for one request: {line}")
         status, cause = line["code"].rpartition("/")[2], line.get("cause", "none")
         causes[cause] = causes.get(cause, 0) + 1
-        if reply and reply.split(b" ")[1] != status.encode() or status == "502" and cause != "out_of_memory":
+        if reply and reply.split(b" ")[1] != status.encode() or status in ("500", "502") and cause != "out_of_memory":
             bench.check(f"where allocation {number} is refused", False, (reply[:40], line))
     bench.check("allocations that are refused", number > 10, number)
-    bench.check("causes", set(causes) <= {"none", "other", "out_of_memory"} and causes.get("out_of_memory", 0) > 0, causes)
+    bench.check("causes", set(causes) <= {"none", "out_of_memory"} and causes.get("out_of_memory", 0) > 0, causes)
     bench.stop(server)
     said = [int(match[1]) for match in map(DROPPED.fullmatch, Path("messages").read_text().splitlines()) if match]
     # Where there is no memory for what is noted of a connection its end counts, too.
@@ -580,7 +616,7 @@ def names(bench: Bench) -> None:
     bench.stop(server)
 
 
-CHECKS = [outcomes, own_replies, redirects, faults, no_thread, out_of_memory, escapes, pipes, files]
+CHECKS = [outcomes, own_replies, tags, redirects, faults, no_thread, out_of_memory, escapes, pipes, files]
 # One that waits most of its time is made beside the others.
 SLOW_CHECKS = [ends]
 OWN_CHECKS = [names]

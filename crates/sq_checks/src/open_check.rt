@@ -44,6 +44,7 @@ impl Model for OpenCheck {
 impl OpenCheck {
     /// The check that begins on a connection, in an epoch with its configuration, with what it sees and the
     /// facts of that. It takes the room in which its rules are gone on with.
+    #[inline(never)]
     pub fn new(
         alloc: Global,
         conn: ConnNo,

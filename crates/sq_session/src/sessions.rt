@@ -131,6 +131,7 @@ fn refusal_of(opened: Opened) -> Option<Own>
 }
 
 // Says why the connection is not opened.
+#[inline(never)]
 fn refuse<O: Sink>(alloc: Global, to: &mut O, own: Own) -> End
     ensures tells { TellsWhole (error_text own false) (O.contents to.old) (O.contents to.new)
         result }

@@ -75,6 +75,7 @@ fn state_of(stream: &Trying) -> Came {
 }
 
 // The order in which the addresses are tried.
+#[inline(never)]
 fn order(alloc: Global, found: &FoundAddrs, now: u64) -> Option<Vec<Goal>> {
     let mut goals = Vec::new(alloc);
     for (place, known) in found.known.iter().enumerate() {
@@ -121,6 +122,7 @@ impl<'a> Race<'a> {
     }
 
     // Begins with one address more. Answers the socket if it is connected at once.
+    #[inline(never)]
     fn begin<R: Net>(&mut self, rt: &R, goal: Goal, now: u64) -> Option<Trying> {
         let place = goal.place;
         let known = self.known.get(place)?;
@@ -159,6 +161,7 @@ impl<'a> Race<'a> {
     }
 
     // Takes the first socket that is connected, and lets those go that have failed or took too long. The others have lost then.
+    #[inline(never)]
     fn look(&mut self, alloc: Global, now: u64) -> Option<Trying> {
         let longest = millis(self.times.address);
         let attempts = mem::replace(&mut self.attempts, Vec::new(alloc));

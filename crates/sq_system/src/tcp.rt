@@ -73,6 +73,7 @@ impl<R: Clock + Copy + Drop> RealIn<R> {
 
     /// Both halves of a link to an origin, over a socket without the delay that gathers small pieces, dialled by the worker in this
     /// slot for its client. None where there is no memory, or the socket takes no setting.
+    #[inline(never)]
     pub(crate) fn dialled(
         alloc: Global,
         rt: R,

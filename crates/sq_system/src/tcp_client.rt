@@ -145,6 +145,7 @@ impl<
     ghost use Rattle.sq_system.specs.Adapters.{in_faults, out_faults};
 
     // A socket of one of the host's addresses, if one is reached in time.
+    #[inline(never)]
     fn connect(
         &mut self,
         alloc: Global,

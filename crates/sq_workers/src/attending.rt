@@ -105,6 +105,7 @@ fn serve_link<R: Threads + Wait + Sync, W: WorkerTypes, D: DeskCalls, B: Ledgers
 }
 
 // A hub with these shares, in which nothing is counted yet.
+#[inline(never)]
 fn new_hub<'a, R: Wait, D: DeskCalls, B: Ledgers, C: Clock + Drop>(
     rt: &'a R,
     rooms: &SessionRooms<'a, D, B>,

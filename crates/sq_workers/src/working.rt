@@ -91,6 +91,7 @@ fn work<R: Threads + Wait + Sync, W: WorkerTypes, D: DeskCalls, B: Ledgers>(
 }
 
 // Nothing was asked yet, and nothing granted, by the worker of this number.
+#[inline(never)]
 fn nothing<B: Ledgers>(number: u32, asked: Share<Asks<B>>, grants: Share<Grants<B>>) -> Sums<B>
     requires asked { asked.amount ≡ 0 }
     requires grants { grants.amount ≡ 0 }
@@ -109,6 +110,7 @@ fn nothing<B: Ledgers>(number: u32, asked: Share<Asks<B>>, grants: Share<Grants<
 }
 
 // So many parts of shares in which nothing is counted, and the rest.
+#[inline(never)]
 fn split<B: Ledgers>(shares: Shares<B>, parts: u64) -> (Shares<B>, Shares<B>)
     requires asked { (parts < shares.asked.parts) × (shares.asked.amount ≡ 0) }
     requires refused { parts < shares.refused.parts }
@@ -140,6 +142,18 @@ fn split<B: Ledgers>(shares: Shares<B>, parts: u64) -> (Shares<B>, Shares<B>)
             granted,
         },
     )
+}
+
+// So many workers begin one after the other.
+const FEW: u32 = 16;
+
+// How many of so many workers begin in a thread of their own: half of them, so that all begin soon; of a few all but one, so that
+// nearly each thread has the frames of one step alone.
+fn low_of(count: u32) -> u32
+    requires { 1 < count }
+    ensures { (0 < result) × (result < count) }
+{
+    if count > FEW { count / 2 } else { count - 1 }
 }
 
 /// Runs `count` workers beside one another, the first of which opens its connections as number `first` and each later one
@@ -179,7 +193,7 @@ pub fn work_all<
         let sums = nothing(first, asked, granted);
         return work::<R, W, D, B>(rt, alloc, door, rooms, tools, sums, refused);
     }
-    let low = count / 2;
+    let low = low_of(count);
     let high = count - low;
     let next = first + low;
     let parts = u64::from(low) + u64::from(low);
