@@ -35,6 +35,7 @@ TOP = Path(__file__).resolve().parent.parent
 SCENES = ("tunnels", "browsers", "kept", "load", "grants", "start", "orders")
 WORDS = (("silent", 0.0), ("a word each 30 s", 30.0), ("a word each second", 1.0))
 DOMAINS = 60_000
+SETTLES = 2  # the seconds after which all that opened is at rest
 # What the bucket of the scene `grants` gains in a second, and how much it holds.
 GAIN = 1_000_000
 
@@ -66,7 +67,7 @@ class Scenes:
         except (TimeoutError, asyncio.TimeoutError):
             return [f"given up after {seconds:.0f} s"]
 
-    def idle(self, proxy: Proxy, seconds: float) -> Callable[[], float]:
+    def idle(self, proxy: Proxy) -> Callable[[], float]:
         """Begins to look at the processor; what comes back says how much of one it took until then, in percent."""
         took, began = proxy.took(), time.monotonic()
         return lambda: 100 * (proxy.took() - took) / max(0.001, time.monotonic() - began)
@@ -79,12 +80,18 @@ class Scenes:
 
                     async def work(proxy: Proxy = proxy, count: int = count, each: float = each) -> list[str]:
                         links, came = await clients.many(count, proxy.port, self.origin, True)
-                        processor = self.idle(proxy, seconds)
-                        words = await clients.speak(links, max(seconds, each + 1 if each else 0), each)
+                        if not each:
+                            # Silence is what is measured: the word that shows that each tunnel is there comes behind it.
+                            await asyncio.sleep(SETTLES)
+                        processor = self.idle(proxy)
+                        if not each:
+                            await asyncio.sleep(seconds)
+                        spent = processor()
+                        words = await clients.speak(links, max(seconds, each + 1) if each else 0, each)
                         cells = [
                             f"{came.good:,} of {count:,} open, {came.part(0.5):.1f} and {came.part(0.99):.0f} ms; words {words.good:,}, failed {words.failed:,}, "
                             f"{words.part(0.5):.1f} and {words.part(0.99):.0f} ms",
-                            f"{proxy.resident():.1f} MiB, {proxy.number('Threads'):,} threads, {processor():.1f}% of a processor",
+                            f"{proxy.resident():.1f} MiB, {proxy.number('Threads'):,} threads, {spent if not each else processor():.1f}% of a processor",
                         ]
                         for link in links:
                             link.close()
@@ -97,7 +104,7 @@ class Scenes:
             for proxy in self.proxies():
 
                 async def work(proxy: Proxy = proxy, count: int = count) -> list[str]:
-                    processor = self.idle(proxy, self.options.seconds)
+                    processor = self.idle(proxy)
                     pages, objects = await clients.browse(proxy.port, self.origin, count, self.options.seconds)
                     return [
                         f"{pages.good:,} of {pages.good + pages.failed:,} pages whole, {pages.part(0.5):.0f} and {pages.part(0.99):.0f} ms; "
@@ -115,7 +122,7 @@ class Scenes:
                 async def work(proxy: Proxy = proxy, count: int = count) -> list[str]:
                     links, came = await clients.many(count, proxy.port, self.origin, False)
                     await asyncio.sleep(1)
-                    processor = self.idle(proxy, seconds)
+                    processor = self.idle(proxy)
                     await asyncio.sleep(seconds)
                     idle = processor()
                     alive = sum(not link.reader.at_eof() for link in links)
