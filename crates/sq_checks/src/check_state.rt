@@ -91,7 +91,8 @@ fn step_more(steps: u64) -> u64
 
 impl CheckState {
     /// The check that begins on a connection, in an epoch with its configuration, with what it sees and the
-    /// facts of that. It takes the room in which its rules are gone on with.
+    /// facts of that. It takes the room in which its rules are gone on with, and the memory of its own in which it is made.
+    #[inline(never)]
     pub(crate) fn new(
         alloc: Global,
         conn: ConnNo,
@@ -99,26 +100,32 @@ impl CheckState {
         slots: &Arc<Slots>,
         sight: Sight,
         facts: Facts,
-    ) -> Result<CheckState, WantOfMemory>
+    ) -> Result<Box<CheckState>, WantOfMemory>
         requires { facts ≡ facts_of (arc_value slots.now).acls sight }
-        ensures { IfOk result (λ c. c ≡ begun_parts conn epoch (arc_value slots.now) sight) }
+        ensures { IfOk result (λ c. c.value ≡ begun_parts conn epoch (arc_value slots.now) sight) }
     {
         let config = Arc::try_clone(slots.config())?;
         let frames = Frames::start(alloc, slots)?;
         let pool = pool_of(&config, &facts, sight.addr);
-        Ok(CheckState {
-            conn,
-            epoch,
-            config,
-            sight,
-            facts,
-            frames,
-            pool,
-            answers: Answers::new(alloc),
-            stage: CheckStage::Ready,
-            steps: 0,
-            asks: None,
-        })
+        match Box::new(
+            alloc,
+            CheckState {
+                conn,
+                epoch,
+                config,
+                sight,
+                facts,
+                frames,
+                pool,
+                answers: Answers::new(alloc),
+                stage: CheckStage::Ready,
+                steps: 0,
+                asks: None,
+            },
+        ) {
+            Ok(state) => Ok(state),
+            Err(_) => Err(WantOfMemory),
+        }
     }
 
     /// The connection of its request.

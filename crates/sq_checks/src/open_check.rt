@@ -44,7 +44,6 @@ impl Model for OpenCheck {
 impl OpenCheck {
     /// The check that begins on a connection, in an epoch with its configuration, with what it sees and the
     /// facts of that. It takes the room in which its rules are gone on with.
-    #[inline(never)]
     pub fn new(
         alloc: Global,
         conn: ConnNo,
@@ -57,10 +56,7 @@ impl OpenCheck {
         ensures { IfOk result (λ c. c ≡ begun_parts conn epoch (arc_value slots.now) sight) }
     {
         let state = CheckState::new(alloc, conn, epoch, slots, sight, facts)?;
-        match Box::new(alloc, state) {
-            Ok(state) => Ok(OpenCheck { state }),
-            Err(_) => Err(WantOfMemory),
-        }
+        Ok(OpenCheck { state })
     }
 
     /// The connection of its request.

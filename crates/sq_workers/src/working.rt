@@ -91,7 +91,6 @@ fn work<R: Threads + Wait + Sync, W: WorkerTypes, D: DeskCalls, B: Ledgers>(
 }
 
 // Nothing was asked yet, and nothing granted, by the worker of this number.
-#[inline(never)]
 fn nothing<B: Ledgers>(number: u32, asked: Share<Asks<B>>, grants: Share<Grants<B>>) -> Sums<B>
     requires asked { asked.amount ≡ 0 }
     requires grants { grants.amount ≡ 0 }
@@ -107,6 +106,32 @@ fn nothing<B: Ledgers>(number: u32, asked: Share<Asks<B>>, grants: Share<Grants<
         asked,
         grants,
     }
+}
+
+// Runs the worker of this number. A thread that runs one alone has no frame of `work_all` above it.
+fn work_one<R: Threads + Wait + Sync, W: WorkerTypes, D: DeskCalls, B: Ledgers>(
+    rt: &R,
+    alloc: Global,
+    door: &Mutex<Door<W::L>>,
+    rooms: &SessionRooms<'_, D, B>,
+    tools: WorkerTools<W>,
+    number: u32,
+    shares: Shares<B>,
+) -> Sums<B>
+    requires asked { (shares.asked.parts ≡ 2) × (shares.asked.amount ≡ 0) }
+    requires refused { shares.refused.parts ≡ 2 }
+    requires grants { (shares.granted.parts ≡ 2) × (shares.granted.amount ≡ 0) }
+    ensures numbers { (result.first ≡ number) × (result.count ≡ 1) }
+    ensures asked { result.asked.parts ≡ 2 }
+    ensures grants { result.grants.parts ≡ 2 }
+{
+    let Shares {
+        asked,
+        refused,
+        granted,
+    } = shares;
+    let sums = nothing(number, asked, granted);
+    work::<R, W, D, B>(rt, alloc, door, rooms, tools, sums, refused)
 }
 
 // So many parts of shares in which nothing is counted, and the rest.
@@ -185,13 +210,7 @@ pub fn work_all<
     ensures grants { result.grants.parts ≡ count + count }
 {
     if count == 1 {
-        let Shares {
-            asked,
-            refused,
-            granted,
-        } = shares;
-        let sums = nothing(first, asked, granted);
-        return work::<R, W, D, B>(rt, alloc, door, rooms, tools, sums, refused);
+        return work_one::<R, W, D, B>(rt, alloc, door, rooms, tools, first, shares);
     }
     let low = low_of(count);
     let high = count - low;
@@ -211,7 +230,13 @@ pub fn work_all<
                 × (shares_low.granted.parts ≡ low + low) × (shares_low.granted.amount ≡ 0) }
             ensures { (result.first ≡ first) × (result.count ≡ low)
                 × (result.asked.parts ≡ low + low) × (result.grants.parts ≡ low + low) }
-        { work_all::<R, W, D, B>(rt, alloc, door, rooms, tools_low, first, low, shares_low) },
+        {
+            if low == 1 {
+                work_one::<R, W, D, B>(rt, alloc, door, rooms, tools_low, first, shares_low)
+            } else {
+                work_all::<R, W, D, B>(rt, alloc, door, rooms, tools_low, first, low, shares_low)
+            }
+        },
         move || -> Sums<B>
             requires { IsSync R.row × IsSend W.row × IsSend D.row × IsSend B.row × IsSync B.row
                 × IsSend W.L.row × IsSend W.L.In.row × IsSend W.L.Outgo.row
@@ -222,7 +247,13 @@ pub fn work_all<
                 × (shares.granted.parts ≡ high + high) × (shares.granted.amount ≡ 0) }
             ensures { (result.first ≡ next) × (result.count ≡ high)
                 × (result.asked.parts ≡ high + high) × (result.grants.parts ≡ high + high) }
-        { work_all::<R, W, D, B>(rt, alloc, door, rooms, tools, next, high, shares) },
+        {
+            if high == 1 {
+                work_one::<R, W, D, B>(rt, alloc, door, rooms, tools, next, shares)
+            } else {
+                work_all::<R, W, D, B>(rt, alloc, door, rooms, tools, next, high, shares)
+            }
+        },
     );
     both(one, other)
 }

@@ -8,8 +8,8 @@ use Rattle.sq_checks.proofs.CheckLaws.{begun_is}
 use Rattle.sq_checks.proofs.GivenLaws.{frames_first}
 use Rattle.sq_checks.proofs.check_state.CheckState.new.Goals as goal
 
-pub invariant_of-result : goal.invariant_of-result
-invariant_of-result c =
+pub invariant_of-new : goal.invariant_of-new
+invariant_of-new c =
     let config : arc_value c.in_ok-config.config ≡ arc_value c.args.slots.now = c.in_ok-config.ensures
     ∙ c.config.ensures ∙ c.deref.ensures in
     let second : c.deref-2.result.now ≡ arc_value c.args.slots.now = c.deref-2.ensures ∙ config in
@@ -29,8 +29,8 @@ invariant_of-result c =
       asks_are = tt;
     }
 
-pub returns : goal.returns
-returns c =
+pub returns-in-Ok : goal.returns-in-Ok
+returns-in-Ok c =
     let config : arc_value c.in_ok-config.config ≡ arc_value c.args.slots.now = c.in_ok-config.ensures
     ∙ c.config.ensures ∙ c.deref.ensures in
     let second : c.deref-2.result.now ≡ arc_value c.args.slots.now = c.deref-2.ensures ∙ config in
@@ -40,6 +40,6 @@ returns c =
     c.pool_of-pool.ensures c.args.sight facts refl in
     let f = c.in_ok-frames.frames in
     let first : looks_in f ≡ 0 = none_looked c.args.facts f (c.in_ok-frames.ensures.at c.args.facts) in
-    begun_is c.args.conn c.args.epoch (arc_value c.in_ok-config.config) (arc_value c.args.slots.now) c.args.sight
+    c.in-Ok.ensures.ok ∙ begun_is c.args.conn c.args.epoch (arc_value c.in_ok-config.config) (arc_value c.args.slots.now) c.args.sight
     c.pool_of-pool.result c.new.result (looks_in f) config
     (pool ∙ ap (λ d. pool_of d c.args.sight) second) c.new.ensures first
