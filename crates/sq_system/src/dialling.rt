@@ -90,13 +90,41 @@ fn order(alloc: Global, found: &FoundAddrs, now: u64) -> Option<Vec<Goal>> {
     Some(tried_so(alloc, goals.as_slice()).ok()?.into_vec())
 }
 
+// What a dial waits with for its sockets.
+#[derive(Drop)]
+struct Waiter {
+    poll: Poll,
+    events: Events<Global>,
+}
+
+impl Waiter {
+    fn new<R: Net>(rt: &R, alloc: Global) -> Result<Waiter, DialFault> {
+        let poll = match Poll::new(rt) {
+            Ok(poll) => poll,
+            Err(error) => return Err(fault_of(&error)),
+        };
+        match Events::with_capacity(alloc, 32) {
+            Ok(events) => Ok(Waiter { poll, events }),
+            Err(_) => Err(DialFault::OutOfMemory),
+        }
+    }
+
+    // Waits until a socket says something, for so many milliseconds at most.
+    fn wait(&mut self, time: u64) {
+        let _ = self
+            .poll
+            .poll(&mut self.events, Some(Duration::from_millis(time)));
+    }
+}
+
 // The sockets of one dial.
 #[derive(Drop)]
 struct Race<'a> {
     known: &'a [Known],
     port: u16,
     times: &'a LinkTimes,
-    poll: Option<Poll>,
+    // There is none where the first socket is connected at once.
+    waiter: Option<Waiter>,
     attempts: Vec<Attempt>,
     // The place of the address that was reached, or of the one that was tried last, and why the last one that failed did.
     place: Option<usize>,
@@ -123,7 +151,7 @@ impl<'a> Race<'a> {
 
     // Begins with one address more. Answers the socket if it is connected at once.
     #[inline(never)]
-    fn begin<R: Net>(&mut self, rt: &R, goal: Goal, now: u64) -> Option<Trying> {
+    fn begin<R: Net>(&mut self, rt: &R, alloc: Global, goal: Goal, now: u64) -> Option<Trying> {
         let place = goal.place;
         let known = self.known.get(place)?;
         self.place = Some(place);
@@ -142,11 +170,19 @@ impl<'a> Race<'a> {
             }
             Came::Nothing => {}
         }
-        if self.poll.is_none() {
-            self.poll = Poll::new(rt).ok();
+        if self.waiter.is_none() {
+            match Waiter::new(rt, alloc) {
+                Ok(waiter) => self.waiter = Some(waiter),
+                Err(fault) => {
+                    self.fault = fault;
+                    return None;
+                }
+            }
         }
-        let poll = self.poll.as_ref()?;
-        poll.registry()
+        let waiter = self.waiter.as_ref()?;
+        waiter
+            .poll
+            .registry()
             .register(&mut stream, Token(place), Interest::WRITABLE)
             .ok()?;
         self.attempts
@@ -202,13 +238,6 @@ impl<'a> Race<'a> {
     fn is_late(&self) -> bool {
         self.attempts.iter().any(|attempt| attempt.late)
     }
-
-    // Waits until a socket says something, for so many milliseconds at most.
-    fn wait(&mut self, events: &mut Events<Global>, time: u64) {
-        if let Some(poll) = &mut self.poll {
-            let _ = poll.poll(events, Some(Duration::from_millis(time)));
-        }
-    }
 }
 
 /// A socket of the address that answers first. An address is tried 250 ms behind the one before it, or at once where none is under
@@ -232,7 +261,7 @@ pub(crate) fn connect<R: Net + Clock>(
         known: found.known.as_slice(),
         port,
         times,
-        poll: None,
+        waiter: None,
         attempts: Vec::new(alloc),
         place: None,
         fault: DialFault::Other,
@@ -251,9 +280,6 @@ fn run<R: Net + Clock>(
     begun: u64,
     wanting: &Wanting<'_>,
 ) -> Result<Trying, DialFault> {
-    let Ok(mut events) = Events::with_capacity(alloc, 32) else {
-        return Err(DialFault::OutOfMemory);
-    };
     let mut at = 0;
     let mut last = 0;
     for _ in 0..u32::MAX {
@@ -278,7 +304,7 @@ fn run<R: Net + Clock>(
                 Some(goal) => {
                     at = at.saturating_add(1);
                     last = time;
-                    if let Some(stream) = race.begin(rt, *goal, time) {
+                    if let Some(stream) = race.begin(rt, alloc, *goal, time) {
                         race.lose(time);
                         return Ok(stream);
                     }
@@ -290,7 +316,9 @@ fn run<R: Net + Clock>(
                 None => {}
             }
         }
-        race.wait(&mut events, TICK);
+        if let Some(waiter) = &mut race.waiter {
+            waiter.wait(TICK);
+        }
     }
     Err(DialFault::Other)
 }

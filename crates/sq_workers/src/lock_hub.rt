@@ -97,6 +97,7 @@ fn after<R: Wait, D: DeskCalls, B: Ledgers, T>(
 
 impl<'a, R: Wait, D: DeskCalls, B: Ledgers, C: Clock + Drop> LockHub<'a, R, D, B, C> {
     /// A hub over these locks that asked nothing yet and was granted nothing.
+    #[inline(never)]
     pub fn new(
         rt: &'a R,
         room: &'a Room<D, B>,
@@ -130,6 +131,7 @@ impl<'a, R: Wait, D: DeskCalls, B: Ledgers, C: Clock + Drop> LockHub<'a, R, D, B
     }
 
     /// Its shares, given back.
+    #[inline(never)]
     pub fn finish(self) -> Shares<B>
         ensures asked { result.asked ≡ self.entry.asked.share }
         ensures refused { result.refused ≡ self.entry.refused }
@@ -172,6 +174,7 @@ impl<'a, R: Wait, D: DeskCalls, B: Ledgers, C: Clock + Drop> Hub for LockHub<'a,
 
     ghost granted_capped = { λ s. Prim.search arith };
 
+    #[inline(never)]
     #[tactic(auto, using(crate::proofs::HubLaws::hub_refusals))]
     fn open(
         &mut self,
@@ -186,6 +189,7 @@ impl<'a, R: Wait, D: DeskCalls, B: Ledgers, C: Clock + Drop> Hub for LockHub<'a,
         after(self.rt, room, gave)
     }
 
+    #[inline(never)]
     #[tactic(auto, using(crate::proofs::HubLaws::hub_refusals))]
     fn close(&mut self, conn: ConnNo) -> Result<(), HubFault> {
         let room = self.rooms.room;

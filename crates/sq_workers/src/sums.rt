@@ -28,6 +28,7 @@ pub struct Sums<B: Ledgers> {
 
 impl<B: Ledgers> Sums<B> {
     /// Shares of one part each in which nothing is counted, for a session.
+    #[inline(never)]
     pub(crate) fn lend(&mut self, refused: &mut Share<Refusals<B>>) -> Shares<B>
         requires asked { self.old.asked.parts ≡ 2 }
         requires grants { self.old.grants.parts ≡ 2 }
@@ -49,6 +50,7 @@ impl<B: Ledgers> Sums<B> {
     }
 
     /// Adds what a session asked and was granted, and takes its shares back.
+    #[inline(never)]
     pub(crate) fn add(
         &mut self,
         refused: &mut Share<Refusals<B>>,
