@@ -40,6 +40,7 @@ returns-in-Ok c =
     c.pool_of-pool.ensures c.args.sight facts refl in
     let f = c.in_ok-frames.frames in
     let first : looks_in f ≡ 0 = none_looked c.args.facts f (c.in_ok-frames.ensures.at c.args.facts) in
-    c.in-Ok.ensures.ok ∙ begun_is c.args.conn c.args.epoch (arc_value c.in_ok-config.config) (arc_value c.args.slots.now) c.args.sight
+    c.in-Ok.ensures.ok
+    ∙ begun_is c.args.conn c.args.epoch (arc_value c.in_ok-config.config) (arc_value c.args.slots.now) c.args.sight
     c.pool_of-pool.result c.new.result (looks_in f) config
     (pool ∙ ap (λ d. pool_of d c.args.sight) second) c.new.ensures first
