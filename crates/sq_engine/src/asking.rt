@@ -1,8 +1,10 @@
 //! A request arrives.
-ghost use Rattle.std.specs.Prelude.{◌≡◌, ◌<◌, ◌++◌, ◌∷◌, [], ℕ, suc, List, max, true, None, Some, is_some, IfOk, OnOk, OnErr};
+ghost use Rattle.std.specs.Prelude.{◌≡◌, ◌<◌, ◌++◌, ◌∷◌, [], ℕ, suc, List, max, true, None, Some, is_some, IfErr, IfOk, OnOk, OnErr};
 ghost use Rattle.sq_base.specs.Targets.{target_of};
 ghost use Rattle.sq_base.specs.declared.requests.Field.{Field};
+ghost use Rattle.sq_rules.specs.Facts.{facts_of};
 ghost use Rattle.sq_rules.specs.Sights.{asked_request, unversioned};
+ghost use Rattle.sq_machine.specs.declared.refusals.Refusal.TheVariants as refusal;
 ghost use Rattle.sq_machine.specs.Limits.{last_number};
 ghost use Rattle.sq_checks.specs.Conns.{check_in, client_in};
 ghost use Rattle.sq_checks.specs.OpenChecks.{all_before, begun_parts, row, rows_of};
@@ -22,30 +24,43 @@ use sq_base::{CheckNo, ConnNo, EpochNo, Moment, Request, WantOfMemory};
 use sq_checks::OpenChecks;
 use sq_machine::{LAST_NUMBER, Refusal, later};
 use sq_model::minute_of_week;
-use sq_rules::{Peer, Sight};
+use sq_rules::{Facts, Peer, Sight};
 use std::alloc::Global;
+
+// The facts of what a check sees. The stack has little of the call that asks for them, since a search of a pattern takes much of it.
+fn facts_in(alloc: Global, setup: &mut Current, sight: &Sight) -> Result<Facts, Refusal>
+    ensures ok { IfOk result (λ f. f ≡ facts_of setup.old.acls sight.now) }
+    ensures err { IfErr result (λ r. r ≡ refusal.WantOfMemory) }
+    ensures same { setup.new ≡ setup.old }
+{
+    match setup.facts(alloc, sight) {
+        Ok(facts) => Ok(facts),
+        Err(WantOfMemory) => Err(Refusal::WantOfMemory),
+    }
+}
 
 // Begins a check in the epoch of a configuration, under a number above all that are open.
 #[inline(never)]
 fn begin(
     alloc: Global,
     checks: &mut OpenChecks,
-    setup: &mut Current,
+    setup: &Current,
     number: CheckNo,
     conn: ConnNo,
     epoch: EpochNo,
     sight: Sight,
+    facts: Facts,
 ) -> Result<(), WantOfMemory>
-    requires { all_before number (rows_of checks.old) ≡ true }
+    requires above { all_before number (rows_of checks.old) ≡ true }
+    requires facts { facts ≡ facts_of setup.now.acls sight }
     ensures list { OnOk result
-        (checks.new ≡ checks.old ++ (number, begun_parts conn epoch setup.old sight) ∷ []) }
+        (checks.new ≡ checks.old ++ (number, begun_parts conn epoch setup.now sight) ∷ []) }
     ensures rows { OnOk result
         (rows_of checks.new
-        ≡ rows_of checks.old ++ row number (begun_parts conn epoch setup.old sight) ∷ []) }
-    ensures same { setup.new ≡ setup.old }
+        ≡ rows_of checks.old ++ row number (begun_parts conn epoch setup.now sight) ∷ []) }
     ensures err { OnErr result (checks.new ≡ checks.old) }
 {
-    let open = setup.begun(alloc, conn, epoch, sight)?;
+    let open = setup.begun(alloc, conn, epoch, sight, facts)?;
     checks.begin(number, open)
 }
 
@@ -104,14 +119,16 @@ impl Engine {
             minute: minute_of_week(moment, self.offset),
             conns: self.conns.of(peer.addr),
         };
+        let facts = facts_in(alloc, &mut self.setup, &sight)?;
         match begin(
             alloc,
             &mut self.checks,
-            &mut self.setup,
+            &self.setup,
             check,
             conn,
             epoch,
             sight,
+            facts,
         ) {
             Ok(()) => {}
             Err(WantOfMemory) => return Err(Refusal::WantOfMemory),

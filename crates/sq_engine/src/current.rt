@@ -1,10 +1,11 @@
 //! What is made once of the configuration that is current.
 ghost use Rattle.std.specs.Prelude.{◌≡◌, IfOk};
 ghost use Rattle.sq_checks.specs.OpenChecks.{begun_parts};
+ghost use Rattle.sq_rules.specs.Facts.{facts_of};
 
 use sq_base::{ConnNo, EpochNo, WantOfMemory};
 use sq_checks::{OpenCheck, Slots};
-use sq_rules::Sight;
+use sq_rules::{Facts, Sight};
 use sq_urlmatch::{Setup, read_facts};
 use std::alloc::Global;
 use std::marker::Model;
@@ -48,18 +49,26 @@ impl Current {
         }
     }
 
-    /// The check that begins on a connection, in the epoch of this configuration, of what it sees.
+    /// Whether each leaf acl of this configuration holds of what a check sees, or want of memory.
+    pub(crate) fn facts(&mut self, alloc: Global, sight: &Sight) -> Result<Facts, WantOfMemory>
+        ensures ok { IfOk result (λ f. f ≡ facts_of self.old.acls sight.now) }
+        ensures same { self.new ≡ self.old }
+    {
+        read_facts(alloc, &mut self.setup, sight)
+    }
+
+    /// The check that begins on a connection, in the epoch of this configuration, of what it sees, with the facts of that.
     pub(crate) fn begun(
-        &mut self,
+        &self,
         alloc: Global,
         conn: ConnNo,
         epoch: EpochNo,
         sight: Sight,
+        facts: Facts,
     ) -> Result<OpenCheck, WantOfMemory>
-        ensures ok { IfOk result (λ c. c ≡ begun_parts conn epoch self.old sight) }
-        ensures same { self.new ≡ self.old }
+        requires { facts ≡ facts_of self.now.acls sight }
+        ensures { IfOk result (λ c. c ≡ begun_parts conn epoch self.now sight) }
     {
-        let facts = read_facts(alloc, &mut self.setup, &sight)?;
         OpenCheck::new(alloc, conn, epoch, &self.slots, sight, facts)
     }
 }

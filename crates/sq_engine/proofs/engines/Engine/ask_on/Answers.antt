@@ -58,8 +58,11 @@ invariant_of-self-2 c =
       few = few;
       free = free;
       list = c.in-Ok.ensures.list
+          ∙ ap (λ s. v.checks ++ (n, begun_parts c.args.conn c.current-epoch.result s sight) ∷ []) c.in_ok-facts.ensures.same
           ∙ ap (λ e. v.checks ++ (n, begun_parts c.args.conn e v.setup sight) ∷ []) c.current-epoch.ensures;
       rows = c.in-Ok.ensures.rows
+          ∙ ap (λ s. rows_of v.checks ++ row n (begun_parts c.args.conn c.current-epoch.result s sight) ∷ [])
+          c.in_ok-facts.ensures.same
           ∙ ap (λ e. rows_of v.checks ++ row n (begun_parts c.args.conn e v.setup sight) ∷ []) c.current-epoch.ensures;
       marks = c.set_check.ensures.checks;
     } in
@@ -72,7 +75,7 @@ invariant_of-self-2 c =
       epochs = c.began.new.self;
       setup = z;
       latest = c.later-moment.result;
-    })) (sym c.in-Ok.ensures.same)
+    })) (sym c.in_ok-facts.ensures.same)
     (begun_engine v c.args.conn n c.later-moment.result sight c.set_check.new.self c.begin.new.checks c.began.new.self
     c.self.invariant k is)
 
@@ -105,8 +108,11 @@ returns-clause-ok c = λ method target fields e.
       few = few;
       free = free;
       list = c.in-Ok.ensures.list
+          ∙ ap (λ s. v.checks ++ (n, begun_parts c.args.conn c.current-epoch.result s sight) ∷ []) c.in_ok-facts.ensures.same
           ∙ ap (λ e. v.checks ++ (n, begun_parts c.args.conn e v.setup sight) ∷ []) c.current-epoch.ensures;
       rows = c.in-Ok.ensures.rows
+          ∙ ap (λ s. rows_of v.checks ++ row n (begun_parts c.args.conn c.current-epoch.result s sight) ∷ [])
+          c.in_ok-facts.ensures.same
           ∙ ap (λ e. rows_of v.checks ++ row n (begun_parts c.args.conn e v.setup sight) ∷ []) c.current-epoch.ensures;
       marks = c.set_check.ensures.checks;
     } in
@@ -159,6 +165,7 @@ returns-clause-begun c =
     } in
     let list : c.begin.new.checks ≡ v.checks ++ (n, begun_parts c.args.conn v.epochs.current v.setup sight) ∷ [] =
     c.in-Ok.ensures.list
+    ∙ ap (λ s. v.checks ++ (n, begun_parts c.args.conn c.current-epoch.result s sight) ∷ []) c.in_ok-facts.ensures.same
     ∙ ap (λ e. v.checks ++ (n, begun_parts c.args.conn e v.setup sight) ∷ []) c.current-epoch.ensures in
     let one : suc v.asks ≡ n = ap (λ z. suc z.asks) c.self.view_is ∙ sym c.in_ok-peer.ensures.number in
     let above : all_before n (rows_of v.checks) ≡ true =
