@@ -30,6 +30,7 @@ fn formed(request: &Request)
 }
 
 // The event of a request, with copies of its method, target and fields.
+#[inline(never)]
 fn asked(alloc: Global, conn: ConnNo, request: &Request) -> Result<Event, WantOfMemory>
     ensures { IfOk result
         (λ e. e ≡ event.Ask conn request.now.method request.now.target request.now.fields) }
@@ -46,6 +47,7 @@ fn asked(alloc: Global, conn: ConnNo, request: &Request) -> Result<Event, WantOf
 }
 
 // Makes a place for the entry of a request, and its event.
+#[inline(never)]
 fn ready<J: Journal>(
     alloc: Global,
     notes: &mut Notes<J>,
