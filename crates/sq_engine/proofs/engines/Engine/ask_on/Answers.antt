@@ -58,7 +58,8 @@ invariant_of-self-2 c =
       few = few;
       free = free;
       list = c.in-Ok.ensures.list
-          ∙ ap (λ s. v.checks ++ (n, begun_parts c.args.conn c.current-epoch.result s sight) ∷ []) c.in_ok-facts.ensures.same
+          ∙ ap (λ s. v.checks ++ (n, begun_parts c.args.conn c.current-epoch.result s sight) ∷ [])
+          c.in_ok-facts.ensures.same
           ∙ ap (λ e. v.checks ++ (n, begun_parts c.args.conn e v.setup sight) ∷ []) c.current-epoch.ensures;
       rows = c.in-Ok.ensures.rows
           ∙ ap (λ s. rows_of v.checks ++ row n (begun_parts c.args.conn c.current-epoch.result s sight) ∷ [])
@@ -108,7 +109,8 @@ returns-clause-ok c = λ method target fields e.
       few = few;
       free = free;
       list = c.in-Ok.ensures.list
-          ∙ ap (λ s. v.checks ++ (n, begun_parts c.args.conn c.current-epoch.result s sight) ∷ []) c.in_ok-facts.ensures.same
+          ∙ ap (λ s. v.checks ++ (n, begun_parts c.args.conn c.current-epoch.result s sight) ∷ [])
+          c.in_ok-facts.ensures.same
           ∙ ap (λ e. v.checks ++ (n, begun_parts c.args.conn e v.setup sight) ∷ []) c.current-epoch.ensures;
       rows = c.in-Ok.ensures.rows
           ∙ ap (λ s. rows_of v.checks ++ row n (begun_parts c.args.conn c.current-epoch.result s sight) ∷ [])
