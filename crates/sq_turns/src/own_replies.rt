@@ -19,6 +19,13 @@ use std::alloc::Global;
 // The status of a denial.
 const FORBIDDEN: u16 = 403;
 
+// Tells a link that there was no memory, where its own reply is sent for that.
+fn tell_why<O: Sink>(to: &O, own: Own) {
+    if let Own::NoMemory = own {
+        to.observe(&Observed::OutOfMemory);
+    }
+}
+
 /// Sends an own reply, behind which the connection closes.
 #[inline(never)]
 pub fn say<O: Sink>(alloc: Global, to: &mut O, own: Own, no_body: bool) -> Carried
@@ -28,9 +35,7 @@ pub fn say<O: Sink>(alloc: Global, to: &mut O, own: Own, no_body: bool) -> Carri
     ensures later { O.faults to.old ≤ O.faults to.new }
     ensures dry { dry_after result ≡ 0 }
 {
-    if let Own::NoMemory = own {
-        to.observe(&Observed::OutOfMemory);
-    }
+    tell_why(to, own);
     let Ok(text) = error_text(alloc, own, no_body) else {
         return Carried::Over(End::WantOfMemory);
     };
