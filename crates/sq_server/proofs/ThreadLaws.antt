@@ -36,6 +36,8 @@ use Rattle.sq_checks.specs.contracts.counts.ConnCounts as counts
 use Rattle.sq_checks.specs.contracts.counts.ConnCounts.TheInside as counts_inside
 use Rattle.sq_checks.specs.contracts.conns.Conns as conns
 use Rattle.sq_checks.specs.contracts.stages.CheckStage as stage
+use Rattle.sq_checks.specs.contracts.check_state.CheckState as check_state
+use Rattle.sq_checks.specs.contracts.check_state.CheckState.TheInside as check_state_inside
 use Rattle.sq_checks.specs.contracts.open_check.OpenCheck as open_check
 use Rattle.sq_checks.specs.contracts.open_check.OpenCheck.TheInside as open_check_inside
 use Rattle.sq_checks.specs.contracts.open_checks.OpenChecks as open_checks
@@ -188,9 +190,9 @@ conns_send = search (sendable, crosses, BTreeMap-send, link_send, counts_send) d
 stage_send : IsSend stage.the_row
 stage_send = search (sendable, crosses) depth 40 fits 20000
 
-open_check_inside_send : IsSend open_check_inside.the_row
-open_check_inside_send =
-    let parts : FieldsHave IsSend (open_check_inside.the_type).parts = (
+check_state_inside_send : IsSend check_state_inside.the_row
+check_state_inside_send =
+    let parts : FieldsHave IsSend (check_state_inside.the_type).parts = (
       search (sendable, crosses) depth 40 fits 20000,
       (
         search (sendable, crosses) depth 40 fits 20000,
@@ -221,6 +223,15 @@ open_check_inside_send =
         ),
       ),
     ) in
+    declared_send check_state_inside.the_type parts
+
+check_state_send : IsSend check_state.the_row
+check_state_send = view_send _ _ _ _ _ check_state_inside_send
+
+open_check_inside_send : IsSend open_check_inside.the_row
+open_check_inside_send =
+    let parts : FieldsHave IsSend (open_check_inside.the_type).parts =
+    (search (sendable, crosses, check_state_send) depth 40 fits 20000, tt) in
     declared_send open_check_inside.the_type parts
 
 open_check_send : IsSend open_check.the_row
