@@ -17,6 +17,10 @@ while read -r url rest; do
     */spelt*) echo "OK rewrite-url=\"HTTP://127.0.0.1:$port?q\"" ;;
     */named*) echo "OK rewrite-url=\"http://LocalHost:$port/\"" ;;
     */nobody*) echo "OK rewrite-url=\"http://[::1]:$port/new\"" ;;
+    */short*) echo "OK rewrite-url=\"http://127.1:$port/new\"" ;;
+    */hexadecimal*) echo "OK rewrite-url=\"http://0x7f000001:$port/new\"" ;;
+    */mapped*) echo "OK rewrite-url=\"http://[::ffff:127.0.0.1]:$port/new\"" ;;
+    */absolute*) echo "OK rewrite-url=\"http://localhost.:$port/new\"" ;;
     */ftp*) echo "OK rewrite-url=\"ftp://127.0.0.1:$port/new\"" ;;
     */nonsense*) echo 'OK rewrite-url=nonsense' ;;
     */path*) echo 'OK rewrite-url=/new' ;;
