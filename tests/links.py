@@ -61,11 +61,13 @@ class Origin:
         self.listener = socket.create_server(("127.0.0.1", 0), backlog=512)
         self.port = self.listener.getsockname()[1]
         self.ended: list[float] = []
+        self.reached = 0
         threading.Thread(target=self.accept, daemon=True).start()
 
     def accept(self) -> None:
         while True:
             link, _ = self.listener.accept()
+            self.reached += 1
             threading.Thread(target=self.answer, args=(link,), daemon=True).start()
 
     def answer(self, link: socket.socket) -> None:
@@ -385,6 +387,72 @@ def shutdown(bench: Bench) -> None:
     bench.check("the end of the first", said == "stopped, status 0", said)
 
 
+def requests_as_shutdown_begins(bench: Bench) -> None:
+    """Who asks in that moment gets a whole reply or nothing, over a connection of its own or one that is open, which goes on while it is
+    used; a reply is that of the rules, and what reached the origin stands in the journal as allowed."""
+    text = "acl no url_regex /denied\nhttp_access deny no\nhttp_access allow all\n"
+    denied = b"HTTP/1.1 403 Forbidden\r\nContent-Type: text/plain\r\nContent-Length: 14\r\n\r\ndenied rule 1\n"
+    hello = b"HTTP/1.1 200 OK\r\nContent-Length: 5\r\nVia: 1.1 aclproxy\r\n\r\nhello"
+    odd: list[bytes] = []
+    replies = {hello: 0, denied: 0}
+    nothing = 0
+    lock = threading.Lock()
+    over = threading.Event()
+
+    def come(kept: bool) -> None:
+        """Asks until no reply comes any more, or the turn is over."""
+        nonlocal nothing
+        link = None
+        path, wanted = "/hello", hello
+        while not over.is_set():
+            reply = b""
+            try:
+                link = link or bench.connect()
+                bench.ask(link, path)
+                reply = reply_of(link)
+            except OSError:
+                pass
+            # An end of the connection stands behind what came before it, which has to be nothing.
+            reply = re.sub(rb"<\w+>$", b"", reply)
+            with lock:
+                if reply == wanted:
+                    replies[wanted] += 1
+                elif reply:
+                    odd.append(reply)
+                else:
+                    nothing += 1
+            if reply != wanted:
+                break
+            path, wanted = ("/denied", denied) if wanted == hello else ("/hello", hello)
+            if link and not kept:
+                link.close()
+                link = None
+        if link:
+            link.close()
+
+    for turn in range(12):
+        before = dict(replies)
+        over.clear()
+        server = bench.start(16, text=text)
+        reached = bench.origin.reached
+        coming = each(6, lambda: come(True)) + each(6, lambda: come(False))
+        time.sleep(0.02 + 0.01 * turn)
+        server.order("shutdown\n")
+        time.sleep(0.2)
+        over.set()
+        for one in coming:
+            one.join(PATIENCE)
+        said = f"{server.hear(PATIENCE)}, status {server.ends(5)}, {bench.verify()}"
+        if said != "stopped, status 0, verified":
+            bench.check(f"end {turn + 1}", False, said)
+        noted = Path("journal").read_text()
+        allowed, denials = noted.count(" allowed rule 2"), noted.count(" denied rule 1")
+        if not (replies[hello] - before[hello] <= bench.origin.reached - reached <= allowed and replies[denied] - before[denied] <= denials):
+            bench.check(f"the journal of end {turn + 1}", False, (allowed, denials, replies, before, bench.origin.reached - reached))
+    bench.check("other replies", not odd, odd[:3])
+    bench.check("both replies, and requests that got none", all(replies.values()) and nothing > 0, (replies, nothing))
+
+
 def count_open(links: list[socket.socket]) -> int:
     """How many tunnels still carry a line."""
     return sum(echoes(link, b"line\n") for link in links)
@@ -663,7 +731,7 @@ def shortages(bench: Bench) -> None:
     bench.check("its journal", (said := bench.verify()) == "verified", said)
 
 
-CHECKS = [silent_clients, idle_links, free_workers, clients_that_leave, shutdown, helpers, unreachable, addresses, shortages]
+CHECKS = [silent_clients, idle_links, free_workers, clients_that_leave, shutdown, requests_as_shutdown_begins, helpers, unreachable, addresses, shortages]
 # Those that wait most of their time, in groups that are made beside the others and beside one another.
 SLOW_CHECKS = [[slow_head], [crowded_tunnels, last_links], [crowded_heads, many_tunnels]]
 LONG_CHECKS = [silence]
