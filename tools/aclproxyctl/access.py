@@ -11,7 +11,7 @@ from dataclasses import dataclass, field
 from pathlib import Path
 from typing import Iterator, NamedTuple, Optional
 
-from aclproxyctl.errors import CUT, UserError, of_system
+from aclproxyctl.errors import of_system
 from aclproxyctl.packed import open_plain_or_packed
 
 NAME = "access.log"
@@ -20,6 +20,10 @@ VARIABLE = "ACLPROXY_ACCESS_LOG"
 FILE = re.compile(r"access\.log(?:\.([0-9]+)(?:\.gz|\.zst)?|\.gz|\.zst)?")
 MOMENT = re.compile(r"([0-9]{1,12})\.([0-9]{3})")
 STATUS = re.compile(r"[0-9]{3}|-")
+# A number as the program writes it, below 10 ** 19.
+NUMBER = re.compile(r"[0-9]{1,19}")
+# A line has fewer bytes than this: its longest words are a method and a target of a head of 65,536 bytes, where a byte may be escaped as `%XX`.
+GREATEST_LINE = 1 << 20
 TUNNEL = "TCP_TUNNEL"
 # What stands for the target of a connection that ended without a request.
 SILENT = "error:transaction-end-before-headers"
@@ -64,7 +68,7 @@ class Access(NamedTuple):
     def number(self, name: str) -> int:
         """The number of a field; 0 where there is none."""
         value = self.fields.get(name, "")
-        return int(value) if value.isascii() and value.isdigit() else 0
+        return int(value) if NUMBER.fullmatch(value) else 0
 
 
 def host_of(url: str) -> str:
@@ -91,7 +95,7 @@ def parse(text: str) -> Optional[Access]:
     code, slash, status = words[3].partition("/")
     if moment is None or not slash or STATUS.fullmatch(status) is None:
         return None
-    if not (words[1].isascii() and words[1].isdigit() and words[4].isascii() and words[4].isdigit()):
+    if not (NUMBER.fullmatch(words[1]) and NUMBER.fullmatch(words[4])):
         return None
     fields = dict(word.split("=", 1) for word in words[10:] if "=" in word)
     return Access(
@@ -123,16 +127,20 @@ class Odd:
 
 
 def lines_of_access(files: list[Path]) -> Iterator[bytes]:
-    """The lines of these files, without their LF. A last line without its end is not read: it is still written, or was cut off."""
+    """The lines of these files, without their LF. A last line without its end is not read: it is still written, or was cut off. Of a line
+    that is too long to be one of an access log the beginning stands for it.
+    """
     for path in files:
         with open_plain_or_packed(path) as file:
-            try:
-                for line in file:
-                    if not line.endswith(b"\n"):
-                        break
+            while line := file.readline(GREATEST_LINE):
+                if line.endswith(b"\n"):
                     yield line[:-1]
-            except EOFError:
-                raise UserError(CUT, f"{path}: it is compressed, and cut off") from None
+                elif len(line) == GREATEST_LINE:
+                    yield line[:10]
+                    while len(line) == GREATEST_LINE and not line.endswith(b"\n"):
+                        line = file.readline(GREATEST_LINE)
+                else:
+                    break
 
 
 def accesses(files: list[Path], odd: Odd) -> Iterator[Access]:
@@ -150,4 +158,4 @@ def accesses(files: list[Path], odd: Odd) -> Iterator[Access]:
 def is_access_log(path: Path) -> bool:
     """Whether the first line of a file is one of an access log."""
     with open_plain_or_packed(path) as file:
-        return parse(file.readline(1 << 20).rstrip(b"\n").decode("latin-1")) is not None
+        return parse(file.readline(GREATEST_LINE).rstrip(b"\n").decode("latin-1")) is not None

@@ -7,7 +7,7 @@ from dataclasses import asdict, dataclass, fields
 from pathlib import Path
 from typing import Any, Optional
 
-from aclproxyctl.counts import Counted, Counts
+from aclproxyctl.counts import Counted, Counts, whole
 from aclproxyctl.journal import is_written
 from aclproxyctl.state import Standing
 
@@ -47,8 +47,8 @@ def read(run: Path) -> Optional[Counters]:
         found = json.loads((run / NAME).read_text(encoding="utf-8"))
         if found["version"] != VERSION:
             return None
-        counters = Counters(counted_of(found), int(found["moment"]), bool(found["whole"]))
-    except (OSError, ValueError, KeyError, TypeError, AttributeError):
+        counters = Counters(counted_of(found), whole(found["moment"]), bool(found["whole"]))
+    except (OSError, ValueError, LookupError, TypeError, AttributeError, OverflowError, RecursionError):
         return None
     if counters.counted.fault or not (counters.whole or is_written(run)):
         return None
@@ -59,9 +59,9 @@ def counted_of(found: dict[str, Any]) -> Counted:
     standing = Standing()
     for one in fields(standing):
         value = found["standing"][one.name]
-        setattr(standing, one.name, {str(name): int(count) for name, count in value.items()} if one.name == "helpers" else int(value))
+        setattr(standing, one.name, {str(name): whole(count) for name, count in value.items()} if one.name == "helpers" else whole(value))
     journal = found["journal"]
     return Counted(
-        Counts.of_plain(found["counts"]), standing, int(journal["bytes"]), int(journal["pieces"]), int(journal["cut"]), bool(journal["has_access"]),
+        Counts.of_plain(found["counts"]), standing, whole(journal["bytes"]), whole(journal["pieces"]), whole(journal["cut"]), bool(journal["has_access"]),
         str(journal["fault"]),
     )

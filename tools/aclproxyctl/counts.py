@@ -156,20 +156,28 @@ class Counts:
             value, there = getattr(counts, one.name), found[one.name]
             if isinstance(value, Counter):
                 for *key, count in there:
-                    value[key[0] if len(key) == 1 else tuple(key)] = int(count)
+                    value[str(key[0]) if len(key) == 1 else tuple(map(str, key))] = whole(count)
             elif isinstance(value, Histogram):
                 setattr(counts, one.name, histogram_of(there))
             elif isinstance(value, dict):
                 value.update({name: histogram_of(wait) for name, wait in there.items()})
             else:
-                setattr(counts, one.name, int(there))
+                setattr(counts, one.name, whole(there))
         return counts
 
 
 def histogram_of(found: list[float]) -> Histogram:
     if len(found) != len(BOUNDS) + 2:
         raise ValueError
-    return Histogram([int(count) for count in found[:-1]], float(found[-1]))
+    return Histogram([whole(count) for count in found[:-1]], float(found[-1]))
+
+
+def whole(value: Any) -> int:
+    """A count of a file of counters."""
+    count = int(value)
+    if not 0 <= count < 1 << 63:
+        raise ValueError
+    return count
 
 
 @dataclass
@@ -225,7 +233,7 @@ class Watched:
                 if time.monotonic() > end:
                     return False
             self.has_access = self.has_access or bool(access_files(self.run))
-        except (UserError, OSError, ValueError, IndexError, EOFError) as fault:
+        except (UserError, OSError, ValueError, IndexError) as fault:
             self.changed = self.changed or not self.fault
             self.fault = str(fault) or type(fault).__name__
         return True

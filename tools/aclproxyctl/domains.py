@@ -17,7 +17,7 @@ from typing import Optional
 from urllib.parse import unquote_to_bytes
 
 HEAD = 64
-HEAD_FORM = re.compile(rb"aclproxy-domains 1 ([0-9]+) ([0-9]+) *\n")
+HEAD_FORM = re.compile(rb"aclproxy-domains 1 ([12]?[0-9]|3[012]) ([0-9]{1,10}) *\n")
 NAME_FORM = re.compile(r"[A-Za-z0-9_-][A-Za-z0-9_.-]*")
 # How long a file is taken for the one that it was.
 LOOKED_AT = 1.0

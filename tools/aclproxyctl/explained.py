@@ -1,5 +1,6 @@
 """explain --check: what came of a request that a journal has, by which lines, and what its access log says of it."""
 
+import ipaddress
 import os
 from dataclasses import dataclass, field
 from pathlib import Path
@@ -11,7 +12,7 @@ from aclproxyctl.confs import Conf
 from aclproxyctl.disk import size_in_words
 from aclproxyctl.errors import DONE, INTERNAL, MISSING, NO, UNDECIDED, UserError
 from aclproxyctl.explain import Asked, Holding, Machine, NotStarted, Question, Reply, Unanswered, tell_rules
-from aclproxyctl.journal import KEPT_CONF, Reader, Tail, lines_of_files, runs_at, unescape, whole_pieces
+from aclproxyctl.journal import KEPT_CONF, Entry, Reader, Tail, lines_of_files, outcome_of, runs_at, unescape, whole_pieces, wordless
 from aclproxyctl.status import moment
 
 WANTED = frozenset(("begin", "open", "close", "ask", "take", "act", "started", "startfail", "line", "died", "reconfigure"))
@@ -52,26 +53,35 @@ class Past:
             entry = self.reader.entry(line)
             if entry is None:
                 continue
-            kind = entry.event[0]
-            if kind == "ask" and entry.answer[:2] == ["check", self.check]:
-                self.found = self.asked(line, entry.moment, entry.event[1])
-            elif kind == "take" and entry.event[1] == self.check and self.found is not None:
-                self.found.epoch, self.found.outcome = int(entry.answer[1]), entry.answer[2:]
-                return self.found
-            elif kind == "close":
-                self.clients.pop(entry.event[1], None)
-                if self.found is not None and self.found.conn == entry.event[1]:
-                    self.found.closed = True
-                    return self.found
-            else:
-                self.other(kind, entry.event, entry.answer)
+            try:
+                if self.ends(line, entry):
+                    break
+            except (IndexError, KeyError, ValueError):
+                raise wordless(str(self.run), entry) from None
         return self.found
+
+    def ends(self, line: bytes, entry: Entry) -> bool:
+        """Takes an entry; whether the check ends with it."""
+        kind = entry.event[0]
+        if kind == "ask" and entry.answer[:2] == ["check", self.check]:
+            self.found = self.asked(line, entry.moment, entry.event[1])
+        elif kind == "take" and entry.event[1] == self.check and self.found is not None:
+            self.found.epoch, self.found.outcome = outcome_of(entry)
+            return True
+        elif kind == "close":
+            self.clients.pop(entry.event[1], None)
+            if self.found is not None and self.found.conn == entry.event[1]:
+                self.found.closed = True
+                return True
+        else:
+            self.other(kind, entry.event, entry.answer)
+        return False
 
     def asked(self, line: bytes, at: int, conn: str) -> Recorded:
         before = self.reader.before
         event = line.decode("latin-1").rpartition(" => ")[0].split(" ")[before + 3 :]
         method, target, *fields = [os.fsdecode(unescape(word)) for word in event]
-        client = self.clients.get(conn, "")
+        client = self.clients[conn]
         same = sum(one == client for one in self.clients.values())
         return Recorded(self.run, Asked(client, method, target, fields, at, self.offset, max(same, 1)), conn)
 
@@ -79,6 +89,7 @@ class Past:
         if kind == "begin":
             self.offset = int(event[1])
         elif kind == "open":
+            ipaddress.ip_address(event[2])
             self.clients[event[1]] = event[2]
         elif kind == "reconfigure":
             self.confs[int(answer[1])] = unescape(event[1])

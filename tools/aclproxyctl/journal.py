@@ -143,10 +143,7 @@ def lines_of_files(paths: list[Path], tail: Tail) -> Iterator[bytes]:
     for path in paths:
         with open_piece(path) as file:
             while True:
-                try:
-                    block = file.read(BLOCK)
-                except EOFError:
-                    raise UserError(CUT, f"{path}: it is compressed, and cut off") from None
+                block = file.read(BLOCK)
                 if not block:
                     break
                 tail.bytes += len(block)
@@ -306,8 +303,20 @@ class Request:
         return int(self.outcome[2]) if self.outcome[1:2] and self.outcome[1] in ("rule", "fault") else None
 
 
-OUTCOME = re.compile(r"(?:allowed|denied) (?:rule [0-9]+|default)|denied empty|denied fault [0-9]+ [^ ]+ [A-Za-z]+")
+OUTCOME = re.compile(r"(?:allowed|denied) (?:rule [0-9]{1,19}|default)|denied empty|denied fault [0-9]{1,19} [^ ]+ [A-Za-z]+")
 OF_REQUESTS = frozenset(("ask", "take", "open", "close", "reconfigure"))
+
+
+def outcome_of(entry: Entry) -> tuple[int, list[str]]:
+    """The epoch and the outcome of a `take`. IndexError or ValueError where it has not the words of one."""
+    if not OUTCOME.fullmatch(" ".join(entry.answer[2:])):
+        raise ValueError
+    return int(entry.answer[1]), entry.answer[2:]
+
+
+def wordless(name: str, entry: Entry) -> UserError:
+    """The error for an entry that has not the words of its kind."""
+    return UserError(VERSION, f"{name}: the entry `{' '.join(entry.event)[:80]}` has not the words of one")
 
 
 class Requests:
@@ -333,12 +342,11 @@ class Requests:
                 self.open[event[1]] = entry.answer[1]
             elif kind == "take":
                 request = self.checks.pop(event[1], None)
-                if not OUTCOME.fullmatch(" ".join(entry.answer[2:])):
-                    raise ValueError
+                epoch, outcome = outcome_of(entry)
                 if request is not None:
                     request.taken = entry.moment
-                    request.epoch = int(entry.answer[1])
-                    request.outcome = entry.answer[2:]
+                    request.epoch = epoch
+                    request.outcome = outcome
                 return request
             elif kind == "open":
                 self.clients[event[1]] = event[2]
@@ -353,7 +361,7 @@ class Requests:
                 self.epoch = int(entry.answer[1])
                 self.configured = event[1]
         except (IndexError, ValueError):
-            raise UserError(VERSION, f"{self.name}: the entry `{' '.join(event)[:80]}` has not the words of one") from None
+            raise wordless(self.name, entry) from None
         return None
 
 

@@ -7,7 +7,7 @@ import tempfile
 import zlib
 from dataclasses import dataclass
 from pathlib import Path
-from typing import BinaryIO, Iterable, TextIO
+from typing import BinaryIO, Iterable, Iterator, TextIO
 
 from aclproxyctl.domains import HEAD, NAME_FORM, DomainFile, Unreadable
 from aclproxyctl.errors import DONE, MISSING, NO, USAGE, UserError, of_system
@@ -19,6 +19,8 @@ ADDRESS = re.compile(rb"[0-9a-f:.]+")
 PARTS_BITS = 6
 # A bucket has about so many names.
 IN_BUCKET = 4
+# A line has fewer bytes than this: a name has 253 at most, and an address and a comment may stand beside it.
+GREATEST_LINE = 65536
 
 
 @dataclass
@@ -59,13 +61,22 @@ def name_of(line: bytes) -> bytes:
     return words[0].rstrip(b".") if len(words) == 1 else b""
 
 
+def lines_of_list(file: BinaryIO) -> Iterator[bytes]:
+    """The lines of a list. Of one that is too long to state a name, `!` stands for the line, which is none."""
+    while line := file.readline(GREATEST_LINE):
+        is_long = len(line) == GREATEST_LINE
+        yield b"!" if is_long else line
+        while is_long and line and not line.endswith(b"\n"):
+            line = file.readline(GREATEST_LINE)
+
+
 def spread(paths: list[str], below: bool, parts: list[BinaryIO], count: Count) -> int:
     """Writes each name to the part that its checksum says, and has how many there were."""
     total = 0
     for path in paths:
         try:
             with open(path, "rb") as file:
-                for line in file:
+                for line in lines_of_list(file):
                     name = name_of(line)
                     if not DOMAIN.fullmatch(name):
                         count.lines_passed += 1 if line.split(b"#", 1)[0].strip() else 0
@@ -153,7 +164,8 @@ def update(out: TextIO, folder: str, words: list[str], below: bool, smaller: boo
                 out.write(f"{fault.text}\n")
                 status = NO
                 continue
-            passed = f"; {plural(count.lines_passed, 'line')} that are no names were passed over" if count.lines_passed else ""
+            are = "is no name was" if count.lines_passed == 1 else "are no names were"
+            passed = f"; {plural(count.lines_passed, 'line')} that {are} passed over" if count.lines_passed else ""
             out.write(f"{name}: {plural(count.names, 'name')}{passed}\n")
     except OSError as fault:
         raise of_system(fault, folder) from None

@@ -25,6 +25,7 @@ from aclproxyctl.journal import (
     lines_following,
     lines_of_files,
     lines_of_run,
+    outcome_of,
     pieces_of,
     runs_at,
     runs_of,
@@ -32,6 +33,7 @@ from aclproxyctl.journal import (
     started,
     unescape,
     whole_pieces,
+    wordless,
 )
 
 # An access log that is followed may be ahead of its journal by so many of these pauses, in seconds.
@@ -217,10 +219,14 @@ class Decisions:
             entry = self.reader.entry(line)
             if entry is None:
                 continue
-            if entry.event[0] == "reconfigure":
-                self.rules.add(int(entry.answer[1]), unescape(entry.event[1]))
-            else:
-                self.taken[entry.event[1]] = (int(entry.answer[1]), tuple(map(sys.intern, entry.answer[2:])))
+            try:
+                if entry.event[0] == "reconfigure":
+                    self.rules.add(int(entry.answer[1]), unescape(entry.event[1]))
+                else:
+                    epoch, outcome = outcome_of(entry)
+                    self.taken[entry.event[1]] = (epoch, tuple(map(sys.intern, outcome)))
+            except (IndexError, ValueError):
+                raise wordless(self.reader.name, entry) from None
         return self.taken.pop(check)
 
     def text(self, check: str) -> str:

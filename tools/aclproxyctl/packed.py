@@ -6,6 +6,7 @@ import os
 import shutil
 import subprocess
 import time
+import zlib
 from pathlib import Path
 from typing import BinaryIO, Callable, Optional
 
@@ -21,6 +22,34 @@ LOOK_AGAIN = 0.05
 
 def never() -> bool:
     return False
+
+
+def spoilt(path: Path) -> UserError:
+    return UserError(CUT, f"{path}: it is compressed, and cut off or spoilt")
+
+
+class Gunzipped(io.RawIOBase):
+    """The text of a file that gzip compressed."""
+
+    def __init__(self, path: Path) -> None:
+        super().__init__()
+        self.path = path
+        self.file = gzip.open(path)
+
+    def readable(self) -> bool:
+        return True
+
+    def readinto(self, buffer: "bytearray | memoryview") -> int:  # type: ignore[override]
+        try:
+            block = self.file.read(len(buffer))
+        except (EOFError, zlib.error, gzip.BadGzipFile):
+            raise spoilt(self.path) from None
+        buffer[: len(block)] = block
+        return len(block)
+
+    def close(self) -> None:
+        self.file.close()
+        super().close()
 
 
 class Unpacked(io.RawIOBase):
@@ -41,7 +70,7 @@ class Unpacked(io.RawIOBase):
         assert self.process.stdout is not None
         block = os.read(self.process.stdout.fileno(), len(buffer))
         if not block and self.process.wait() != 0:
-            raise UserError(CUT, f"{self.path}: it is compressed, and cut off or spoilt")
+            raise spoilt(self.path)
         buffer[: len(block)] = block
         return len(block)
 
@@ -60,7 +89,7 @@ def open_plain_or_packed(path: Path) -> BinaryIO:
     for form in (path, *(plain.with_name(plain.name + suffix) for suffix in SUFFIXES)):
         try:
             if form.suffix == ".gz":
-                return gzip.open(form)  # type: ignore[return-value]
+                return io.BufferedReader(Gunzipped(form), BLOCK)
             file = open(form, "rb")
         except FileNotFoundError:
             continue

@@ -28,7 +28,7 @@ def service_of(run: Path) -> Optional[Service]:
         found = json.loads((run / SERVICE).read_text())
         service = Service(int(found["process"]), int(found["port"]), int(found["workers"]))
         command = Path(f"/proc/{service.process}/cmdline").read_bytes().split(b"\0")
-    except (OSError, ValueError, KeyError, TypeError):
+    except (OSError, ValueError, LookupError, TypeError, OverflowError, RecursionError):
         return None
     # The number may be that of another process by now.
     named = f"{run.name}/current.conf".encode()

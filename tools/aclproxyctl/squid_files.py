@@ -9,6 +9,9 @@ from aclproxyctl.confs import Line, lines_of, read
 from aclproxyctl.errors import SYSTEM, UserError, of_system
 
 DEEPEST_INCLUDE = 16
+# What is included in all, so that files that include one another come to an end.
+MOST_FILES = 1000
+MOST_BYTES = 64 << 20
 # How the first line of a file begins that a conversion wrote.
 WRITTEN = "# Converted by aclproxyctl from "
 
@@ -47,6 +50,8 @@ class Converted:
     warned: list[tuple[Item, str]] = field(default_factory=list)
     kept: int = 0
     left: int = 0
+    files: int = 0
+    bytes: int = 0
 
     def keep(self, item: Item, *lines: str) -> None:
         for line in lines:
@@ -77,7 +82,10 @@ class Converted:
 
 def items_of(path: str, top: str, depth: int, found: Converted) -> Iterator[Item]:
     """The lines of a file and of those that it includes, each file in its place."""
-    for line in lines_of(read(path)):
+    source = read(path)
+    found.files += 1
+    found.bytes += len(source)
+    for line in lines_of(source):
         item = Item(path, line)
         if line.words[:1] != [b"include"]:
             yield item
@@ -86,6 +94,8 @@ def items_of(path: str, top: str, depth: int, found: Converted) -> Iterator[Item
             if not any("16 deep" in stop.why for stop in found.stops):
                 found.stop(item, "files are included more than 16 deep")
             continue
+        if is_too_much(found):
+            continue
         yield item
         for place in range(1, len(line.words)):
             pattern = os.fsdecode(line.words[place]).strip('"')
@@ -93,7 +103,15 @@ def items_of(path: str, top: str, depth: int, found: Converted) -> Iterator[Item
             if not names:
                 found.stop(item, f"there is no file {pattern}; Squid ends with an error there", "take the line out, or correct the name")
             for name in names:
+                if is_too_much(found):
+                    if not any("are included in all" in stop.why for stop in found.stops):
+                        found.stop(item, f"more than {MOST_FILES:,} files, or {MOST_BYTES >> 20} MiB, are included in all", "include each file once")
+                    break
                 yield from items_of(name, top, depth + 1, found)
+
+
+def is_too_much(found: Converted) -> bool:
+    return found.files > MOST_FILES or found.bytes > MOST_BYTES
 
 
 def is_utf8(text: bytes) -> bool:

@@ -18,7 +18,10 @@ Rows = tuple[tuple[str, str], ...]
 
 
 def moment(milliseconds: int) -> str:
-    return datetime.fromtimestamp(milliseconds / 1000, timezone.utc).strftime("%Y-%m-%d %H:%M:%S UTC")
+    try:
+        return datetime.fromtimestamp(milliseconds // 1000, timezone.utc).strftime("%Y-%m-%d %H:%M:%S UTC")
+    except (OverflowError, ValueError):
+        return "beyond the year 9999"
 
 
 def rows_of_service(run: Path) -> Rows:

@@ -11,7 +11,7 @@ from aclproxyctl import words
 from aclproxyctl.check import judge, tell_refused
 from aclproxyctl.confs import Conf, read
 from aclproxyctl.errors import CUT, DONE, INTERNAL, MISSING, NO, NOT_UTF8, REFUSED, USAGE, VERSION, UserError, of_system
-from aclproxyctl.journal import KEPT_CONF, open_piece, runs_at, whole_pieces
+from aclproxyctl.journal import BLOCK, KEPT_CONF, open_piece, runs_at, whole_pieces
 
 # The program reads so many bytes of a journal at most.
 GREATEST = 1_073_741_824
@@ -31,7 +31,7 @@ def feed(pieces: list[Path], to: BinaryIO, fed: Fed) -> None:
         for piece in pieces:
             with open_piece(piece) as file:
                 while True:
-                    block = file.read(1 << 20)
+                    block = file.read(BLOCK)
                     if not block:
                         break
                     to.write(block)
@@ -40,8 +40,8 @@ def feed(pieces: list[Path], to: BinaryIO, fed: Fed) -> None:
         fed.faults.append(fault)
     except BrokenPipeError:
         pass
-    except (OSError, EOFError) as fault:
-        fed.faults.append(of_system(fault, str(pieces[0].parent)) if isinstance(fault, OSError) else UserError(CUT, f"{piece}: it is compressed, and cut off"))
+    except OSError as fault:
+        fed.faults.append(of_system(fault, str(pieces[0].parent)))
     finally:
         try:
             to.close()
@@ -86,7 +86,7 @@ def last_is_cut(pieces: list[Path]) -> bool:
             if piece.suffix in (".gz", ".zst"):
                 last = b""
                 while True:
-                    block = file.read(1 << 20)
+                    block = file.read(BLOCK)
                     if not block:
                         break
                     last = block
@@ -100,20 +100,20 @@ def last_is_cut(pieces: list[Path]) -> bool:
 
 
 def line_number(pieces: list[Path], number: int) -> tuple[bytes, bool]:
-    """A line of the joined text, and whether it is the last."""
+    """A line of the joined text, as far as it is shown, and whether it is the last."""
     count = 0
     found = b""
     for piece in pieces:
         with open_piece(piece) as file:
             while True:
-                line = file.readline()
+                line = file.readline(BLOCK)
                 if not line:
                     break
                 if count == number:
                     return found, False
                 count += line.endswith(b"\n")
                 if count == number or (count == number - 1 and not line.endswith(b"\n")):
-                    found += line
+                    found = (found + line)[:BLOCK]
     return found, True
 
 
