@@ -35,10 +35,11 @@ KNOWN: dict[str, str] = {}
 
 
 class Bench:
-    """What the faults share: the program, an origin, and what was found."""
+    """What the faults share: the program, an origin, and what was found by the test that is named."""
 
-    def __init__(self, program: str) -> None:
+    def __init__(self, program: str, test: str) -> None:
         self.program = program
+        self.test = test
         self.sanitized = b"Sanitizer" in Path(program).read_bytes()
         self.failed = 0
         self.known = 0
@@ -89,18 +90,18 @@ class Bench:
         name = f"{self.fault}, {what}"
         if holds:
             self.passed += 1
-            print(f"faults, {name}: as expected" + (", this time: it is known to fail" if name in KNOWN else ""))
+            print(f"{self.test}, {name}: as expected" + (", this time: it is known to fail" if name in KNOWN else ""))
         elif name in KNOWN:
             self.known += 1
-            print(f"faults, {name}: KNOWN FINDING: it was {got!r}, and not {wanted!r}: {KNOWN[name]}")
+            print(f"{self.test}, {name}: KNOWN FINDING: it was {got!r}, and not {wanted!r}: {KNOWN[name]}")
         else:
             self.failed += 1
-            print(f"faults, {name}: it was {got!r}, and not {wanted!r}")
+            print(f"{self.test}, {name}: it was {got!r}, and not {wanted!r}")
         return holds
 
     def left(self, why: str) -> None:
         self.left_out += 1
-        print(f"faults, {self.fault}: left out, since {why}")
+        print(f"{self.test}, {self.fault}: left out, since {why}")
 
     # Servers and clients.
 
@@ -676,20 +677,14 @@ def no_processes(bench: Bench) -> None:
     one, and no thread to hear it within a minute, Died. Other checks go on."""
     if os.getuid() != 0:
         return bench.left("only root can be another user")
-    os.chmod(".", 0o777)
-    shutil.copy(bench.program, "program")
-    os.chmod("program", 0o755)
-    user = next(number for number in range(61_000, 65_000) if not any(stat.st_uid == number for stat in processes()))
-    most = 0
+    program, user = program_of_another_user(bench.program)
 
     def other() -> None:
-        if most:
-            resource.setrlimit(resource.RLIMIT_NPROC, (most, most))
         os.setgroups([])
         os.setgid(user)
         os.setuid(user)
 
-    ours, bench.program = bench.program, os.path.abspath("program")
+    ours, bench.program = bench.program, program
     try:
         for turn, cause in enumerate(("", "NoHelper", "Died")):
             try:
@@ -697,17 +692,43 @@ def no_processes(bench: Bench) -> None:
             except (OSError, subprocess.SubprocessError) as fault:
                 return bench.left(f"it does not start as another user: {fault}")
             bench.same(f"{turn}, a request", bench.get("/"), hello())
+            # It has the first, the doorkeeper's, four workers' and the pump's thread, and from here on no process more; and then one more.
+            until(5, lambda: server.value("Threads") == 7)
+            if turn:
+                as_user(user, lambda: resource.prlimit(server.pid, resource.RLIMIT_NPROC, (6 + turn, 6 + turn)))
             bench.same(f"{turn}, a tunnel", bench.tunnel("/"), GATEWAY if turn == 1 else TUNNEL + THROUGH)
             denied = own("403 Forbidden", f"denied fault 1 known {cause}")
-            # It has as many threads as before (the first, the doorkeeper's, four workers', the pump's), and no process more; and then one more.
+            # The tunnel's thread has ended.
             until(5, lambda: server.value("Threads") == 7)
-            most = 7 + turn
             bench.same(f"{turn}, a helper", bench.get("/ask/a", seconds=90), denied if turn else hello())
             bench.same(f"{turn}, another request", bench.get("/"), hello())
             bench.same(f"{turn}, its end", bench.ends(server), "stopped status 0")
             bench.same(f"{turn}, its journal", bench.verify(), "verified")
     finally:
         bench.program = ours
+
+
+def as_user(user: int, what: Callable[[], object]) -> None:
+    """Does something in a process of this user."""
+    pid = os.fork()
+    if pid == 0:
+        try:
+            os.setgid(user)
+            os.setuid(user)
+            what()
+            os._exit(0)
+        finally:
+            os._exit(1)
+    if os.waitstatus_to_exitcode(os.waitpid(pid, 0)[1]) != 0:
+        raise AssertionError(f"the user {user} may not do it")
+
+
+def program_of_another_user(program: str) -> tuple[str, int]:
+    """A copy of the program that a user can run who has no process, and that user, who may write to this folder."""
+    os.chmod(".", 0o777)
+    shutil.copy(program, "program")
+    os.chmod("program", 0o755)
+    return os.path.abspath("program"), next(number for number in range(61_000, 65_000) if not any(stat.st_uid == number for stat in processes()))
 
 
 def processes() -> Iterator[os.stat_result]:
@@ -958,26 +979,27 @@ FAULTS: list[Callable[[Bench], None]] = [
 ]
 
 
-def main() -> int:
-    parser = argparse.ArgumentParser(description=__doc__, formatter_class=argparse.RawDescriptionHelpFormatter)
-    parser.add_argument("names", nargs="*", metavar="NAME", help=f"some of: {', '.join(fault.__name__ for fault in FAULTS)}")
+def tried(test: str, text: str, faults: list[Callable[[Bench], None]]) -> int:
+    """Tries the faults of a test that the command line names, or all of them; its status. `text` says what the test is."""
+    parser = argparse.ArgumentParser(description=text, formatter_class=argparse.RawDescriptionHelpFormatter)
+    parser.add_argument("names", nargs="*", metavar="NAME", help=f"some of: {', '.join(fault.__name__ for fault in faults)}")
     parser.add_argument("--program", default=str(HERE.parent / "crates/sq_main/out/sq_main"))
     options = parser.parse_args()
     program = os.path.abspath(options.program)
     if not os.access(program, os.X_OK):
         parser.error(f"{program} is no program: build it first, or name it by --program")
-    bench = Bench(program)
-    top = tempfile.mkdtemp(prefix="faults.")
+    bench = Bench(program, test)
+    top = tempfile.mkdtemp(prefix=f"{test}.")
     os.chmod(top, 0o755)
 
     def give_up(*_: object) -> None:
-        print(f"faults, {bench.fault}: it has not come to its end in time", flush=True)
+        print(f"{test}, {bench.fault}: it has not come to its end in time", flush=True)
         for one in bench.servers:
             one.kill()
         os._exit(1)
 
     signal.signal(signal.SIGALRM, give_up)
-    for fault in FAULTS:
+    for fault in faults:
         if options.names and fault.__name__ not in options.names:
             continue
         bench.fault = fault.__name__.replace("_", " ")
@@ -990,7 +1012,7 @@ def main() -> int:
             fault(bench)
         except Exception as what:  # a fault that cannot be tried to its end is one that failed
             bench.failed += 1
-            print(f"faults, {bench.fault}: {type(what).__name__}: {what}")
+            print(f"{test}, {bench.fault}: {type(what).__name__}: {what}")
         finally:
             for one in bench.servers:
                 one.kill()
@@ -998,12 +1020,12 @@ def main() -> int:
         sys.stdout.flush()
     os.chdir("/")
     if bench.failed:
-        print(f"faults: what they left stands in {top}")
+        print(f"{test}: what they left stands in {top}")
     else:
         shutil.rmtree(top)
-    print(f"faults: {bench.passed} checks as expected, {bench.known} known findings, {bench.left_out} left out, {bench.failed} failed")
+    print(f"{test}: {bench.passed} checks as expected, {bench.known} known findings, {bench.left_out} left out, {bench.failed} failed")
     return 1 if bench.failed else 0
 
 
 if __name__ == "__main__":
-    sys.exit(main())
+    sys.exit(tried("faults", __doc__ or "", FAULTS))

@@ -12,6 +12,8 @@ from aclproxyctl.program import ask
 from aclproxyctl.warnings import Warned, of_conf
 
 MOST = 50
+# All that is judged for the faults of one file has about so many bytes, where these are more than MOST.
+MOST_TEXT = 16 << 20
 
 
 @dataclass(frozen=True)
@@ -61,8 +63,9 @@ class Fault:
 def all_faults(program: str, conf: Conf, first: tuple[int, int], most: int = MOST, stand_in: Callable[[Line], bytes] = taken_out) -> tuple[list[Fault], bool]:
     """The first fault and those that come to light when each faulty line is taken out, and whether there may be more.
 
-    `stand_in` gives what is judged in the place of a faulty line.
+    `stand_in` gives what is judged in the place of a faulty line. Since the file is judged anew for each fault, fewer are told of a long one.
     """
+    most = min(most, max(MOST, MOST_TEXT // max(1, len(conf.source))))
     faults = [Fault(first[0], first[1], None, conf)]
     left_out: list[Line] = []
     while len(faults) < most:
