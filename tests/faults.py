@@ -728,7 +728,8 @@ def program_of_another_user(program: str) -> tuple[str, int]:
     os.chmod(".", 0o777)
     shutil.copy(program, "program")
     os.chmod("program", 0o755)
-    return os.path.abspath("program"), next(number for number in range(61_000, 65_000) if not any(stat.st_uid == number for stat in processes()))
+    user = next(number for number in range(61_000, 65_000) if not any(stat.st_uid == number for stat in processes()))
+    return os.path.abspath("program"), user
 
 
 def processes() -> Iterator[os.stat_result]:

@@ -41,15 +41,18 @@ CPU_SECONDS = 20
 WALL_SECONDS = 60
 MEMORY = 1 << 30  # of address space, beyond what this process has
 OUTPUT = 64 << 20
-STATUSES = {value for name, value in vars(errors).items() if name.isupper() and isinstance(value, int)} - {errors.INTERNAL, errors.INTERRUPTED}
+STATUSES = {value for name, value in vars(errors).items() if name.isupper() and isinstance(value, int)}
+STATUSES -= {errors.INTERNAL, errors.INTERRUPTED}
 RUN = "20251129T004320.000Z"
 CONF = (
-    "external_acl_type known ttl=60 children-max=2 %>rp /bin/sh ./helper\nacl no url_regex /denied\nacl asked url_regex /ask\nacl is_known external known\n"
+    "external_acl_type known ttl=60 children-max=2 %>rp /bin/sh ./helper\n"
+    "acl no url_regex /denied\nacl asked url_regex /ask\nacl is_known external known\n"
     "acl lan src 127.0.0.0/8\nacl names dstdomain .a.example\nacl hours time 00:00-24:00\nhttp_access deny no\nhttp_access deny names\n"
     "http_access deny asked !is_known\nhttp_access allow lan hours\n"
 )
 HELPER = "while read -r path rest; do case $path in *bad*) echo what ;; *no*) echo ERR ;; *) echo OK ;; esac; done\n"
-LIST = b"# a list\na.example\n.b.example\n0.0.0.0 c.example\nC.D.example.\n\nx y z\nwww.a.example # one\n" + b"".join(b"n%d.example\n" % n for n in range(300))
+LIST = b"# a list\na.example\n.b.example\n0.0.0.0 c.example\nC.D.example.\n\nx y z\nwww.a.example # one\n"
+LIST += b"".join(b"n%d.example\n" % n for n in range(300))
 
 
 @dataclass
@@ -79,7 +82,8 @@ def real_run(program: str, folder: Path) -> tuple[bytes, bytes]:
     (folder / "helper").write_text(HELPER)
     os.chdir(folder)
     port = free_port()
-    server = Server(program, ["squid.conf", "--port", str(port), "--workers", "8"], "journal", more={"ACLPROXY_ACCESS_LOG": str(folder / "access.log")})
+    more = {"ACLPROXY_ACCESS_LOG": str(folder / "access.log")}
+    server = Server(program, ["squid.conf", "--port", str(port), "--workers", "8"], "journal", more=more)
     try:
         if server.hear(20) != f"listening {port}":
             raise SystemExit("fuzz_tools: the program does not begin to listen")
@@ -120,8 +124,8 @@ def called(command: Callable[[], int], given: bytes, folder: Path) -> Ended:
     if pid == 0:
         try:
             os.setsid()
-            for number, name, how in ((0, "input", os.O_RDONLY), (1, "out", os.O_WRONLY | os.O_CREAT | os.O_TRUNC), (2, "err", os.O_WRONLY | os.O_CREAT | os.O_TRUNC)):
-                os.dup2(os.open(folder / name, how, 0o600), number)
+            for number, name in enumerate(("input", "out", "err")):
+                os.dup2(os.open(folder / name, os.O_WRONLY | os.O_CREAT | os.O_TRUNC if number else os.O_RDONLY, 0o600), number)
             sys.stdin, sys.stdout, sys.stderr = os.fdopen(0), os.fdopen(1, "w"), os.fdopen(2, "w")
             signal.signal(signal.SIGXFSZ, signal.SIG_DFL)
             resource.setrlimit(resource.RLIMIT_CPU, (CPU_SECONDS, CPU_SECONDS))
@@ -183,9 +187,8 @@ class Round:
 
     def choice(self) -> list[str]:
         """Words by which requests are chosen."""
-        return self.chance.choice(
-            [[], ["--denied"], ["--failed"], ["--slow", "0"], ["--since", "2025-11-29"], ["--client", "127.0.0.0/8"], ["--host", ".a.example"], ["--rule"]]
-        )
+        choices = ["", "--denied", "--failed", "--slow 0", "--since 2025-11-29", "--client 127.0.0.0/8", "--host .a.example", "--rule"]
+        return self.chance.choice(choices).split()
 
     # The kinds of rounds.
 
@@ -245,7 +248,8 @@ class Round:
             if not self.chance.randrange(8):
                 text += b"include %s\n" % self.chance.choice([b"*", b"*.conf", source.name.encode(), b"/dev/null", b"nowhere", b"."])
             if not self.chance.randrange(8):
-                text += b"acl more %s \"%s\"\n" % (self.chance.choice([b"dstdomain", b"src", b"url_regex", b"dstdom_regex -i"]), str(path).encode())
+                kind = self.chance.choice([b"dstdomain", b"src", b"url_regex", b"dstdom_regex -i"])
+                text += b"acl more %s \"%s\"\n" % (kind, str(path).encode())
             path.write_bytes(spoilt(text, self.chance))
         self.ctl("check", "--squid", str(self.folder / "squid" / source.name), "-o", str(self.folder / "converted"))
         self.ctl("check", "--squid", str(self.folder / "squid" / source.name), "--accept", "local-names")
@@ -261,7 +265,8 @@ class Round:
         aclproxyctl_quietly(["lists", "update", str(kept), f"one={write_plain(self.folder / 'plain', LIST)}"])
         write_spoilt(kept / "two", (kept / "one").read_bytes(), "", self.chance)
         self.ctl("lists", "ask", str(kept), "two", "n7.example")
-        questions = b"".join(b"%d %s %s\n" % (n, self.chance.choice([b"a.example", b"n7.example", b"z.b.example", b"-"]), self.chance.choice([b"one", b"two", b"two one", b"..", b"-"])) for n in range(40))
+        hosts, names = [b"a.example", b"n7.example", b"z.b.example", b"-"], [b"one", b"two", b"two one", b"..", b"-"]
+        questions = b"".join(b"%d %s %s\n" % (n, self.chance.choice(hosts), self.chance.choice(names)) for n in range(40))
         self.calls.append(("aclproxy-domains kept", lambda: domains.main([str(kept)]), spoilt(questions, self.chance), {0}))
         self.ctl("lists", "update", str(kept), f"two={text}")
 

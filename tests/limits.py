@@ -2,11 +2,12 @@
 """Limits of the system around `aclproxy serve` and `aclproxyctl run`: tests/limits.py [--program PROGRAM] [NAME ..]
 
 Each function below is a limit, as docs/OPERATING.md has it under System limits; its first words say what must hold, and it checks that.
-What cannot be tried here (no root, no memory cgroup, no libfaketime) is told, and no error. The status is 0 where all else holds. Some of it
-takes a minute. Python 3.11 and its standard library are what it needs, and root for all of it.
+What cannot be tried here (no root, no memory cgroup, no libfaketime) is told, and no error. The status is 0 where all else holds. Some
+of it takes a minute. Python 3.11 and its standard library are what it needs, and root for all of it.
 """
 
 import contextlib
+import functools
 import os
 import resource
 import signal
@@ -134,31 +135,48 @@ def access_log_on_a_full_disk(bench: Bench) -> None:
         bench.same("its journal", bench.verify(), "verified")
 
 
+def ctl(bench: Bench) -> list[str]:
+    """The words that call `aclproxyctl`."""
+    return [sys.executable, str(CTL), "--program", bench.program]
+
+
+def verified(bench: Bench, folder: str) -> int:
+    """The status of `aclproxyctl verify` of the journals of a folder."""
+    return subprocess.run([*ctl(bench), "verify", folder], capture_output=True, timeout=120).returncode
+
+
+def accepts(port: int) -> bool:
+    with contextlib.suppress(OSError):
+        socket.create_connection(("127.0.0.1", port), 1).close()
+        return True
+    return False
+
+
 class Service:
     """`aclproxyctl run` over a configuration, with its log in a file."""
 
-    def __init__(self, bench: Bench, text: str, *words: str, before: Callable[[], None] | None = None, more: dict[str, str] | None = None) -> None:
+    def __init__(
+        self, bench: Bench, text: str, *words: str, before: Callable[[], None] | None = None, more: dict[str, str] | None = None
+    ) -> None:
         Path("squid.conf").write_text(text)
         bench.port = free_port()
         self.log = Path("service.log")
-        # What is before `aclproxyctl` in the words of another program would be in front of its own Python.
-        command = [sys.executable, str(CTL), "--program", bench.program, "run", "squid.conf", "--port", str(bench.port), "--workers", "8", *words]
         with self.log.open("wb") as log:
             self.process = subprocess.Popen(
-                command, stdin=subprocess.DEVNULL, stdout=log, stderr=log, preexec_fn=before, env=os.environ | (more or {}), start_new_session=True
+                [*ctl(bench), "run", "squid.conf", "--port", str(bench.port), "--workers", "8", *words],
+                stdin=subprocess.DEVNULL,
+                stdout=log,
+                stderr=log,
+                preexec_fn=before,
+                env=os.environ | (more or {}),
+                start_new_session=True,
             )
-        if not until(PATIENCE, lambda: "listen" in self.said() and self.accepts(bench.port)):
+        if not until(PATIENCE, lambda: "listen" in self.said() and accepts(bench.port)):
             self.stop()
             raise AssertionError(f"it says {self.said()}")
 
     def said(self) -> str:
         return self.log.read_text(errors="replace")
-
-    def accepts(self, port: int) -> bool:
-        with contextlib.suppress(OSError):
-            socket.create_connection(("127.0.0.1", port), 1).close()
-            return True
-        return False
 
     def ends(self, seconds: float) -> int | None:
         try:
@@ -189,9 +207,8 @@ def service_on_a_full_disk(bench: Bench) -> None:
             bench.same("its end", service.ends(30), 6)
             bench.same("it ends soon", time.monotonic() - begun < 20, True)
             bench.same("it has said that the disk is nearly full", "is nearly full" in service.said(), True)
-            verified = subprocess.run([sys.executable, str(CTL), "--program", bench.program, "verify", "disk/journal"], capture_output=True, text=True, timeout=120)
             # The last line may be cut off, or the text may end behind a line.
-            bench.same("its journal", verified.returncode, {0, 68})
+            bench.same("its journal", verified(bench, "disk/journal"), {0, 68})
         finally:
             service.stop()
 
@@ -218,7 +235,8 @@ def too_few_processes(bench: Bench) -> None:
     program, user = program_of_another_user(bench.program)
     ours, bench.program = bench.program, program
     try:
-        for name, text, own_threads in (("plain", DENYING, 3), ("rewriting", "url_rewrite_program /bin/cat\nurl_rewrite_children 1\n" + DENYING, 4)):
+        rewriting = "url_rewrite_program /bin/cat\nurl_rewrite_children 1\n"
+        for name, text, own_threads in (("plain", DENYING, 3), ("rewriting", rewriting + DENYING, 4)):
             for workers in (1, 8, 64):
                 most = 0
 
@@ -230,7 +248,8 @@ def too_few_processes(bench: Bench) -> None:
 
                 Path("c.conf").write_text(text)
                 most = workers + own_threads - 1
-                bench.same(f"{name}, {workers} workers, one thread too few", run_serve(bench, limit, ("--workers", str(workers))), ", status 10")
+                ended = run_serve(bench, limit, ("--workers", str(workers)))
+                bench.same(f"{name}, {workers} workers, one thread too few", ended, ", status 10")
                 # A thread that ended may count for a moment still, so there are some more.
                 most = workers + own_threads + 8
                 server = bench.start(text, "--workers", str(workers), before=limit)
@@ -320,23 +339,22 @@ def memory_of_a_group(bench: Bench) -> None:
         bench.same("with little, its journal", bench.verify(), "verified")
 
 
+@functools.cache
 def echo_port() -> int:
     """The port of an origin that sends back what it gets; one for all."""
-    if not hasattr(echo_port, "port"):
-        listener = socket.create_server(("127.0.0.1", 0), backlog=2048)
-        echo_port.port = listener.getsockname()[1]  # type: ignore[attr-defined]
+    listener = socket.create_server(("127.0.0.1", 0), backlog=2048)
 
-        def serve(link: socket.socket) -> None:
-            with contextlib.suppress(OSError), link:
-                while text := link.recv(65536):
-                    link.sendall(text)
+    def serve(link: socket.socket) -> None:
+        with contextlib.suppress(OSError), link:
+            while text := link.recv(65536):
+                link.sendall(text)
 
-        def accept() -> None:
-            while True:
-                threading.Thread(target=serve, args=(listener.accept()[0],), daemon=True).start()
+    def accept() -> None:
+        while True:
+            threading.Thread(target=serve, args=(listener.accept()[0],), daemon=True).start()
 
-        threading.Thread(target=accept, daemon=True).start()
-    return int(echo_port.port)  # type: ignore[attr-defined]
+    threading.Thread(target=accept, daemon=True).start()
+    return int(listener.getsockname()[1])
 
 
 def echoes(link: socket.socket) -> bool:
@@ -360,7 +378,12 @@ def clock_that_is_set_back(bench: Bench) -> None:
     if library is None:
         return bench.left("there is no libfaketime, and a time namespace shifts other clocks")
     Path("clock").write_text("+0")
-    more = {"LD_PRELOAD": library, "FAKETIME_TIMESTAMP_FILE": os.path.abspath("clock"), "FAKETIME_NO_CACHE": "1", "FAKETIME_DONT_FAKE_MONOTONIC": "1"}
+    more = {
+        "LD_PRELOAD": library,
+        "FAKETIME_TIMESTAMP_FILE": os.path.abspath("clock"),
+        "FAKETIME_NO_CACHE": "1",
+        "FAKETIME_DONT_FAKE_MONOTONIC": "1",
+    }
     server = bench.start(ASKING, "--workers", "4", more=more)
     bench.same("before", bench.get("/ask/a"), hello())
     Path("clock").write_text(f"-{DAY}")
@@ -394,13 +417,12 @@ def clock_that_is_set_back(bench: Bench) -> None:
     bench.same("runs", len(runs), 2)
     firsts = [moments(str(run / "journal.000000"))[0] for run in runs]
     bench.same("the later run comes behind the other, and has the clock that was set", firsts[0] - firsts[1] > (DAY - 60) * 1000, True)
-    verified = subprocess.run([sys.executable, str(CTL), "--program", bench.program, "verify", "runs"], capture_output=True, text=True, timeout=120)
-    bench.same("their journals", verified.returncode, 0)
+    bench.same("their journals", verified(bench, "runs"), 0)
 
 
 def stopped_for_a_minute(bench: Bench) -> None:
-    """Nothing is lost while the server stands still for longer than a minute: tunnels, connections between requests, requests, those who come
-    meanwhile, orders, and what a helper has answered."""
+    """Nothing is lost while the server stands still for longer than a minute: tunnels, connections between requests, requests, those who
+    come meanwhile, orders, and what a helper has answered."""
     server = bench.start(ASKING, "--workers", "8")
     kept, tunnel, slow, asking = bench.connect(), bench.connect(), bench.connect(), bench.connect()
     kept.sendall(bench.request("/"))

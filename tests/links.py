@@ -447,8 +447,10 @@ def requests_as_shutdown_begins(bench: Bench) -> None:
             bench.check(f"end {turn + 1}", False, said)
         noted = Path("journal").read_text()
         allowed, denials = noted.count(" allowed rule 2"), noted.count(" denied rule 1")
-        if not (replies[hello] - before[hello] <= bench.origin.reached - reached <= allowed and replies[denied] - before[denied] <= denials):
-            bench.check(f"the journal of end {turn + 1}", False, (allowed, denials, replies, before, bench.origin.reached - reached))
+        got = {reply: replies[reply] - before[reply] for reply in replies}
+        came = bench.origin.reached - reached
+        if not (got[hello] <= came <= allowed and got[denied] <= denials):
+            bench.check(f"the journal of end {turn + 1}", False, (allowed, denials, got, came))
     bench.check("other replies", not odd, odd[:3])
     bench.check("both replies, and requests that got none", all(replies.values()) and nothing > 0, (replies, nothing))
 
@@ -731,7 +733,8 @@ def shortages(bench: Bench) -> None:
     bench.check("its journal", (said := bench.verify()) == "verified", said)
 
 
-CHECKS = [silent_clients, idle_links, free_workers, clients_that_leave, shutdown, requests_as_shutdown_begins, helpers, unreachable, addresses, shortages]
+CHECKS = [silent_clients, idle_links, free_workers, clients_that_leave, shutdown, requests_as_shutdown_begins]
+CHECKS += [helpers, unreachable, addresses, shortages]
 # Those that wait most of their time, in groups that are made beside the others and beside one another.
 SLOW_CHECKS = [[slow_head], [crowded_tunnels, last_links], [crowded_heads, many_tunnels]]
 LONG_CHECKS = [silence]

@@ -24,13 +24,38 @@ import time
 from collections import Counter
 from contextlib import ExitStack
 from dataclasses import dataclass
-from typing import Optional
 
 SECONDS = 20.0  # after which a message has not come through
 LARGEST_HEAD = 65_536
 MOST_FIELDS = 128
 # 4xx and 5xx by which a server says that it takes no such message: RFC 9110 section 15.5 and 15.6, RFC 6585 section 5.
 REFUSALS = {400, 405, 411, 413, 414, 417, 431, 501, 505}
+# Lines of their configurations: no cache, no logs, and heads and bodies as large as they come.
+SQUID = """http_access allow all
+cache deny all
+pid_filename none
+access_log none
+cache_log /dev/null
+coredump_dir none
+shutdown_lifetime 1 second
+server_persistent_connections off
+request_header_max_size 256 KB
+reply_header_max_size 256 KB
+pinger_enable off
+"""
+NGINX = r"""access_log off;
+client_max_body_size 0;
+large_client_header_buffers 8 256k;
+proxy_http_version 1.1;
+proxy_request_buffering off;
+proxy_buffering off;
+proxy_buffer_size 256k;
+proxy_buffers 8 256k;
+proxy_busy_buffers_size 512k;
+merge_slashes off;
+ignore_invalid_headers off;
+map $http_host $there { ~:(?<port>\d+)$ $port; }
+"""
 ESTABLISHED = b"HTTP/1.1 200 Connection established\r\n\r\n"
 
 
@@ -88,7 +113,7 @@ def chunks(data: bytes) -> tuple[bytes, bool, bytes]:
             return bytes(body), False, b""
 
 
-def message(data: bytes, asked: bytes = b"", ended: bool = False) -> Optional[Message]:
+def message(data: bytes, asked: bytes = b"", ended: bool = False) -> Message | None:
     """The first message of a text, or none where its head is not whole. `asked` is the method that it replies to, and `ended` says that no
     more comes. What the two proxies write is strict, so whatever is not is an error here."""
     head, end, rest = data.partition(b"\r\n\r\n")
@@ -121,7 +146,7 @@ def message(data: bytes, asked: bytes = b"", ended: bool = False) -> Optional[Me
     return read
 
 
-def reply(data: bytes, asked: bytes, ended: bool) -> Optional[Message]:
+def reply(data: bytes, asked: bytes, ended: bool) -> Message | None:
     """The first reply that is not an interim one."""
     while (read := message(data, asked, ended)) and 100 <= read.status < 200 and read.status != 101:
         data = read.rest
@@ -175,26 +200,20 @@ class Second:
         return path
 
     def program(self, program: str) -> list[str]:
-        return [os.path.abspath(program), "serve", self.file("conf", "http_access allow all\n"), "--port", str(self.port), "--workers", "32"]
+        conf = self.file("conf", "http_access allow all\n")
+        return [os.path.abspath(program), "serve", conf, "--port", str(self.port), "--workers", "32"]
 
     def squid(self) -> list[str]:
         # As a server in front of the origin that a request's Host names, so that it reads the very bytes that an origin would.
-        lines = [
-            f"http_port 127.0.0.1:{self.port} accel vhost allow-direct", "http_access allow all", "cache deny all", "pid_filename none", "access_log none",
-            "cache_log /dev/null", "coredump_dir none", "shutdown_lifetime 1 second", "server_persistent_connections off", "request_header_max_size 256 KB",
-            "reply_header_max_size 256 KB", "pinger_enable off",
-        ]  # fmt: skip
-        return ["squid", "-N", "-f", self.file("conf", "\n".join(lines) + "\n")]
+        text = f"http_port 127.0.0.1:{self.port} accel vhost allow-direct\n" + SQUID
+        return ["squid", "-N", "-f", self.file("conf", text)]
 
     def nginx(self) -> list[str]:
+        folders = "".join(f"{kind}_temp_path {self.folder}/{kind};\n" for kind in ("client_body", "proxy", "fastcgi", "uwsgi", "scgi"))
         text = (
             f"daemon off; worker_processes 1; pid {self.folder}/pid; error_log /dev/null; {'user root;' if os.getuid() == 0 else ''}\n"
-            "events { worker_connections 512; }\nhttp { access_log off; client_max_body_size 0; large_client_header_buffers 8 256k; proxy_buffer_size 256k;\n"
-            "proxy_buffers 8 256k; proxy_busy_buffers_size 512k; merge_slashes off; ignore_invalid_headers off;\n"
-            + "".join(f"{kind}_temp_path {self.folder}/{kind};\n" for kind in ("client_body", "proxy", "fastcgi", "uwsgi", "scgi"))
-            + "map $http_host $there { ~:(?<port>\\d+)$ $port; }\n"
-            f"server {{ listen 127.0.0.1:{self.port} backlog=512; location / {{ proxy_http_version 1.1; proxy_request_buffering off; proxy_buffering off;\n"
-            "proxy_pass http://127.0.0.1:$there$request_uri; } } }\n"
+            f"events {{ worker_connections 512; }}\nhttp {{\n{NGINX}{folders}server {{ listen 127.0.0.1:{self.port} backlog=512;\n"
+            "location / { proxy_pass http://127.0.0.1:$there$request_uri; } } }\n"
         )
         return ["nginx", "-c", self.file("conf", text), "-p", self.folder]
 

@@ -22,7 +22,7 @@ MOMENT = re.compile(r"([0-9]{1,12})\.([0-9]{3})")
 STATUS = re.compile(r"[0-9]{3}|-")
 # A number as the program writes it, below 10 ** 19.
 NUMBER = re.compile(r"[0-9]{1,19}")
-# A line has fewer bytes than this: its longest words are a method and a target of a head of 65,536 bytes, where a byte may be escaped as `%XX`.
+# A line has fewer bytes than this: its longest words are a method and a target, of a head of 65,536 bytes, where a byte may be `%XX`.
 GREATEST_LINE = 1 << 20
 TUNNEL = "TCP_TUNNEL"
 # What stands for the target of a connection that ended without a request.

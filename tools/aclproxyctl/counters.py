@@ -62,6 +62,11 @@ def counted_of(found: dict[str, Any]) -> Counted:
         setattr(standing, one.name, {str(name): whole(count) for name, count in value.items()} if one.name == "helpers" else whole(value))
     journal = found["journal"]
     return Counted(
-        Counts.of_plain(found["counts"]), standing, whole(journal["bytes"]), whole(journal["pieces"]), whole(journal["cut"]), bool(journal["has_access"]),
+        Counts.of_plain(found["counts"]),
+        standing,
+        whole(journal["bytes"]),
+        whole(journal["pieces"]),
+        whole(journal["cut"]),
+        bool(journal["has_access"]),
         str(journal["fault"]),
     )

@@ -552,7 +552,7 @@ def judge_converted(program: str, converter: Converter) -> tuple[Conf, Optional[
     judged = judge_source(program, conf.source)
     if judged.fault is None:
         return conf, judged.counts
-    faults, _ = all_faults(program, conf, judged.fault, MOST_FAULTS, stand_in)
+    faults, more = all_faults(program, conf, judged.fault, MOST_FAULTS, stand_in)
     for fault in faults:
         item = found.origins[fault.number - 1] if 0 < fault.number <= len(found.origins) else None
         item = item or Item(converter.path, Line(0, 0, b"", []))
@@ -560,6 +560,9 @@ def judge_converted(program: str, converter: Converter) -> tuple[Conf, Optional[
         if fault.follows is None:
             mark = " (which may follow from a line that stops)" if found.stops and follows(converter, fault.kind, fault.conf.line(fault.number)) else ""
             found.stop(item, words.of_fault(fault.conf, fault.number, fault.kind) + mark, kind.instead if kind and not mark else "")
+    if more:
+        whole = Item(converter.path, Line(0, 0, b"", []))
+        found.stop(whole, "there may be more that is refused: the file is not judged again without these lines")
     return conf, None
 
 

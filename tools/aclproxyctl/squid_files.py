@@ -105,7 +105,8 @@ def items_of(path: str, top: str, depth: int, found: Converted) -> Iterator[Item
             for name in names:
                 if is_too_much(found):
                     if not any("are included in all" in stop.why for stop in found.stops):
-                        found.stop(item, f"more than {MOST_FILES:,} files, or {MOST_BYTES >> 20} MiB, are included in all", "include each file once")
+                        why = f"more than {MOST_FILES:,} files, or {MOST_BYTES >> 20} MiB, are included in all"
+                        found.stop(item, why, "include each file once")
                     break
                 yield from items_of(name, top, depth + 1, found)
 

@@ -8,13 +8,14 @@ from typing import Callable
 
 # What is put in, in places where something else is awaited.
 PIECES = [
-    b" ", b"\n", b"=> ", b"%", b'"', b"\\\n", b"!", b"-", b"\xff", b"#", b"0", b"acl ", b"http_access deny ", b"\0", b"\r\n", b"\t", b"%00", b"%GG", b"=", b"/",
-    b"[", b"(", b"*", b"{9999}", b"a" * 70_000, b"(" * 3000, b"\xc2\xb2", b"1_0", b"+1", b" 1", b"../", b"\xef\xbb\xbf",
+    b" ", b"\n", b"=> ", b"%", b'"', b"\\\n", b"!", b"-", b"\xff", b"#", b"0", b"acl ", b"http_access deny ",
+    b"\0", b"\r\n", b"\t", b"%00", b"%GG", b"=", b"/", b"[", b"(", b"*", b"{9999}", b"a" * 70_000,
+    b"(" * 3000, b"\xc2\xb2", b"1_0", b"+1", b" 1", b"../", b"\xef\xbb\xbf",
 ]  # fmt: skip
 # Numbers at limits of types, of dates and of what Python reads as a number.
 NUMBERS = [
-    b"0", b"-1", b"00", b"1_0", b"\xb2", b"2147483648", b"4294967296", b"9223372036854775807", b"9223372036854775808", b"18446744073709551616", b"253402300800000",
-    b"9" * 30, b"9" * 4300, b"9" * 5000, b"1e9", b"0x10", b"nan",
+    b"0", b"-1", b"00", b"1_0", b"\xb2", b"2147483648", b"4294967296", b"9223372036854775807", b"9223372036854775808",
+    b"18446744073709551616", b"253402300800000", b"9" * 30, b"9" * 4300, b"9" * 5000, b"1e9", b"0x10", b"nan",
 ]  # fmt: skip
 
 

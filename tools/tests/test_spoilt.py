@@ -5,10 +5,11 @@ import io
 import json
 import os
 import random
+import re
 from pathlib import Path
 from unittest import mock
 
-from aclproxyctl import domains, errors
+from aclproxyctl import check, domains, errors
 from aclproxyctl.access import GREATEST_LINE
 from aclproxyctl.counts import Watched
 from tests.common import TOP, Ended, InFolder, ctl, needs_program
@@ -19,7 +20,8 @@ KNOWN = {value for name, value in vars(errors).items() if name.isupper() and isi
 ACCESS = (
     "1764377001.012      2 10.1.2.3 TCP_DENIED/403 95 GET http://www.a.example/ - HIER_NONE/- text/plain conn=1 check=1 rule=1 in=60\n"
     "1764377002.000    970 2001:db8::1 TCP_DENIED/403 97 GET http://b.example/ - HIER_NONE/- text/plain conn=2 check=2 rule=2 in=52\n"
-    "1764377003.000      1 2001:db8::1 TCP_MISS/502 105 GET http://b.example/ - HIER_DIRECT/192.0.2.8 text/plain conn=2 check=3 rule=1 cause=refused in=52 up=0 down=0\n"
+    "1764377003.000      1 2001:db8::1 TCP_MISS/502 105 GET http://b.example/ - HIER_DIRECT/192.0.2.8 text/plain "
+    "conn=2 check=3 rule=1 cause=refused in=52 up=0 down=0\n"
 )
 LIST = "a.example\n.b.example\n0.0.0.0 c.example # c\nx y z\n"
 
@@ -96,8 +98,10 @@ class Spoilt(InFolder):
     def test_numbers(self) -> None:
         """No number that is larger than the program's is one of an access log, and none stops the others."""
         first, second, third = ACCESS.splitlines()
-        lines = [first.replace(" 95 ", f" {'9' * 5000} "), second.replace("   970 ", f" {'9' * 20} "), third.replace("in=52", f"in={'9' * 4400}")]
-        run = self.run_of(access="".join(line + "\n" for line in lines).encode())
+        first = first.replace(" 95 ", f" {'9' * 5000} ")
+        second = second.replace("   970 ", f" {'9' * 20} ")
+        third = third.replace("in=52", f"in={'9' * 4400}")
+        run = self.run_of(access=f"{first}\n{second}\n{third}\n".encode())
         ended = self.ended("usage", str(run))
         self.assertEqual(ended.status, 0)
         self.assertRegex(ended.out, r"2001:db8::1 +1 +0 +1 +105 ")
@@ -121,9 +125,15 @@ class Spoilt(InFolder):
     def test_explained_entries(self) -> None:
         """An entry without the words of its kind is no entry, whichever it is."""
         for number, (old, new) in enumerate((
-            ("begin 0", "begin x"), ("open 1 10.1.2.3 4000", "open 1"), ("open 1 10.1.2.3", "open 1 \xe4"), ("ask 1 GET http://www.a.example/ Host:www.a.example", "ask 1 GET"),
-            ("ask 1 GET", "ask 9 GET"), ("epoch 1 denied rule 1", "epoch 1 denied rule"), ("take 1 => epoch 1", "take 1 => epoch x"), ("denied rule 1", "denied"),
-        )):  # fmt: skip
+            ("begin 0", "begin x"),
+            ("open 1 10.1.2.3 4000", "open 1"),
+            ("open 1 10.1.2.3", "open 1 \xe4"),
+            ("ask 1 GET http://www.a.example/ Host:www.a.example", "ask 1 GET"),
+            ("ask 1 GET", "ask 9 GET"),
+            ("epoch 1 denied rule 1", "epoch 1 denied rule"),
+            ("take 1 => epoch 1", "take 1 => epoch x"),
+            ("denied rule 1", "denied"),
+        )):
             with self.subTest(new):
                 run = self.run_of(JOURNAL.replace(old, new, 1).encode("latin-1"))
                 ended = self.ended("explain", "--check", "1", str(run))
@@ -134,8 +144,8 @@ class Spoilt(InFolder):
         """A compressed file that is spoilt is told so, wherever in it that is."""
         packed = gzip.compress(JOURNAL.encode() * 50, mtime=0)
         half = len(packed) // 2
-        spoilt_texts = [packed[:half], packed[:half] + bytes(40) + packed[half + 40 :], packed[:-8] + bytes(8), b"\x1f\x8b" + bytes(30), packed + b"x", b"no gzip\n"]
-        for text in spoilt_texts:
+        changed = packed[:half] + bytes(40) + packed[half + 40 :]
+        for text in (packed[:half], changed, packed[:-8] + bytes(8), b"\x1f\x8b" + bytes(30), packed + b"x", b"no gzip\n"):
             run = self.run_of()
             piece = run / "20251129T004320.000Z" / "journal.000000"
             piece.unlink()
@@ -159,7 +169,8 @@ class Spoilt(InFolder):
         watched.update()
         counted = json.dumps({"version": 1, "moment": 1, "whole": True, "journal": {}, "standing": {}, "counts": watched.counts.plain()})
         watched.close()
-        for text in ("[" * 100_000, '{"version": 1}', "[]", "{", counted, counted.replace('"moment": 1', '"moment": 1e999'), counted.replace("0.0", "null")):
+        changed = (counted.replace('"moment": 1', '"moment": 1e999'), counted.replace("0.0", "null"))
+        for text in ("[" * 100_000, '{"version": 1}', "[]", "{", counted, *changed):
             self.file("runs/20251129T004320.000Z/counters.json", text)
             self.assertEqual(self.ended("status", str(run)).out, whole)
 
@@ -168,7 +179,8 @@ class Spoilt(InFolder):
         long = b"x" * (3 * GREATEST_LINE)
         run = self.run_of(access=long + b"\n" + ACCESS.encode())
         self.assertEqual(self.ended("log", str(run)).out.count("\n"), 3)
-        ended = self.ended("lists", "update", str(self.folder / "made"), "one=" + self.file("text", LIST.encode() + long + b"\nlast.example\n"))
+        text = self.file("text", LIST.encode() + long + b"\nlast.example\n")
+        ended = self.ended("lists", "update", str(self.folder / "made"), f"one={text}")
         self.assertEqual(ended.out, "one: 4 names; 2 lines that are no names were passed over\n")
         ended = self.ended("lists", "update", str(self.folder / "made"), "two=" + self.file("text", long))
         self.assertEqual(ended.out, "two: 0 names; 1 line that is no name was passed over\n")
@@ -177,6 +189,17 @@ class Spoilt(InFolder):
         for bits in ("33", "99", "9" * 40, "-1", ""):
             self.file("one", f"aclproxy-domains 1 {bits} 1".encode().ljust(domains.HEAD - 1)[: domains.HEAD - 1] + b"\n" + bytes(4096))
             self.assertEqual(self.ended("lists", "ask", str(self.folder), "one", "a.example").status, errors.NO)
+
+    @needs_program
+    def test_many_faults(self) -> None:
+        """Of a file with more faults than are judged the first ones are told, and that there may be more."""
+        conf = self.file("c", [f"acl a src x{number}" for number in range(80)])
+        for most, told in ((check.MOST_TEXT, 80), (1, check.MOST)):
+            with mock.patch("aclproxyctl.check.MOST_TEXT", most):
+                ended = self.ended("check", "--squid", conf)
+            self.assertEqual(ended.status, errors.NO)
+            self.assertEqual(len(set(re.findall(r"\bx[0-9]+\b", ended.err))), told, ended.err[-400:])
+            self.assertEqual("there may be more that is refused" in ended.err, told < 80)
 
     @needs_program
     def test_files_that_include_one_another(self) -> None:
