@@ -3,8 +3,8 @@
 
 Each round makes a folder of files of one kind, spoilt by the seed and the round's number: the journal and the access log of a real run,
 plain and compressed, with the counters beside them; a squid.conf, with what it includes; lists of domains, and the files that are made of
-them. Then the tools are called over it: `aclproxyctl log`, `usage`, `status`, `metrics`, `verify`, `explain`, `prune`, `check`,
-`check --squid`, `lists`, and the helper `aclproxy-domains`, as docs/man has them.
+them. Then the tools are called over it: `aclproxyctl log`, `usage`, `status`, `report`, `metrics`, `verify`, `explain`,
+`prune`, `check`, `check --squid`, `lists`, and the helper `aclproxy-domains`, as docs/man has them.
 
 Whatever is in the files, each call ends within CPU_SECONDS of a processor and WALL_SECONDS, takes no more than MEMORY bytes, has a status
 that its manual names, and writes no traceback. The status 70 says that the program answered what it is not to, so it is none of these. A
@@ -190,6 +190,10 @@ class Round:
         choices = ["", "--denied", "--failed", "--slow 0", "--since 2025-11-29", "--client 127.0.0.0/8", "--host .a.example", "--rule"]
         return self.chance.choice(choices).split()
 
+    def requests(self) -> list[str]:
+        """The same for commands that tell no rules."""
+        return [word for word in self.choice() if word != "--rule"]
+
     # The kinds of rounds.
 
     def runs(self) -> None:
@@ -209,12 +213,13 @@ class Round:
         named = str(run.parent)
         self.ctl("log", *self.choice(), named)
         self.ctl("log", "--rule", *self.choice(), named)
-        choice = [word for word in self.choice() if word != "--rule"]
-        self.ctl("usage", "--by", self.chance.choice(["client", "host", "tag"]), *choice, named)
+        self.ctl("usage", "--by", self.chance.choice(["client", "host", "tag"]), *self.requests(), named)
         self.ctl("status", named)
         self.ctl("metrics", named)
         self.ctl("verify", named)
         self.ctl("explain", "--check", str(self.chance.randrange(1, 24)), named)
+        if not self.chance.randrange(4):
+            self.ctl("report", *self.requests(), named, "-o", str(self.folder / "page.html"))
         self.calls.append((f"counting {named}", lambda: counted(run), b"", {0}))
         self.ctl("prune", "--keep", "36500d", "--keep-bytes", "1G", named)
 
