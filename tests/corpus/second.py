@@ -283,8 +283,8 @@ class Second:
                 came.append(bytearray(received(link)))
         return bytes(got), [bytes(one) for one in came]
 
-    def takes(self, request: bytes, listener: socket.socket) -> None:
-        """A request that the first proxy passed on has to be one request, with the same body."""
+    def takes(self, request: bytes, listener: socket.socket, sent: bytes | None = None) -> None:
+        """A request that the first proxy passed on has to be one request, with the same body. `sent` is what is sent in its place."""
         first = message(request)
         if first is None:
             self.counts["requests cut off in their heads"] += 1
@@ -292,7 +292,8 @@ class Second:
         if first.rest:
             raise Apart(f"the first proxy wrote more than one request: {first.rest!r}")
         method = first.method
-        got, came = self.talk(self.asked(request), not first.whole, listener, b"HTTP/1.1 204 No Content\r\nConnection: close\r\n\r\n", True)
+        answer = b"HTTP/1.1 204 No Content\r\nConnection: close\r\n\r\n"
+        got, came = self.talk(self.asked(sent or request), not first.whole, listener, answer, True)
         if not came:
             told = reply(got, method, True)
             allowed = REFUSALS if self.kind != "program" else {431} if first.is_too_large else set()
@@ -343,6 +344,20 @@ class Second:
             raise Apart(f"the second proxy makes {heard!r} of the reply {got!r}")
         else:
             self.counts["replies taken as one" if first.whole else "replies cut off"] += 1
+
+    def sees_others(self) -> bool:
+        """Whether a request that is not the one that was passed on is seen as such: one with other bytes in its body, or fewer."""
+        with socket.create_server(("127.0.0.1", 0)) as listener:
+            place = b"127.0.0.1:%d" % listener.getsockname()[1]
+            request = b"POST / HTTP/1.1\r\nHost: %s\r\nContent-Length: 2\r\nConnection: close\r\n\r\nhi" % place
+            self.takes(request, listener)
+            for sent in (request.replace(b"hi", b"ho"), request.replace(b"Length: 2", b"Length: 1")):
+                try:
+                    self.takes(request, listener, sent)
+                    return False
+                except Apart:
+                    pass
+        return True
 
     def has_refused_most(self) -> bool:
         """Whether it has refused more than it took, so that the run shows nothing."""
