@@ -4,7 +4,7 @@ import random
 import sys
 from pathlib import Path
 
-from .model import Acl, Configuration, HelperClass, Pool, Rule
+from .model import Acl, Configuration, FieldRule, HelperClass, Pool, Rule
 
 HERE = Path(__file__).resolve().parent
 
@@ -87,6 +87,26 @@ RULES = [
 ]
 
 
+# Rules of fields: which fields, and what may stand behind the name. No list there asks a helper.
+REQUEST_FIELDS = ["X-Word", "x-word", "Via", "X-Forwarded-For", "Accept", "Content-Length", "Host", "Connection", "All"]
+REPLY_FIELDS = ["X-Kept", "x-kept", "Content-Type", "Via", "X-Hint", "ETag", "Content-Length", "Transfer-Encoding", "Connection", "All"]
+FIELD_RULES = ["deny all", "deny odd", "allow odd", "deny posts", "deny !byname", "allow h1", "deny h2 !odd", "deny hours", "deny few", "allow !strange", "deny refused", "deny CONNECT"]
+
+
+def field_rules(rng: random.Random) -> list[FieldRule]:
+    """Rules of fields. By `X-Id` a request is known at its origin, so that goes on always."""
+    out = []
+    for side, names in (("request", REQUEST_FIELDS), ("reply", REPLY_FIELDS)):
+        for _ in range(rng.choice([0, 2, 4, 8])):
+            out.append(FieldRule(side, rng.choice(names), rule_of(rng.choice(FIELD_RULES))))
+    return [*out, FieldRule("request", "x-ID", Rule(True, ("all",)))]
+
+
+def rule_of(line: str) -> Rule:
+    words = line.split()
+    return Rule(words[0] == "allow", tuple(words[1:]))
+
+
 def pools(rng: random.Random) -> list[Pool]:
     quiet = (Rule(True, ("quiet",)),)
     allowed = rng.choice([quiet, (Rule(False, ("!quiet",)), Rule(False, ("hours",)), Rule(True, ("all",)))])
@@ -111,10 +131,10 @@ def make(rng: random.Random, echo_port: int, local_minute: int) -> Configuration
     words = ["deny outside", "deny refused", *chosen, *last]
     if kind >= 0.985:
         words = []
-    rules = [Rule(line.split()[0] == "allow", tuple(line.split()[1:])) for line in words]
+    rules = [rule_of(line) for line in words]
     extra = rng.choice(["", "# the end", "cache_mem 8 MB\n", "\n\t# CR LF follow\r\n"])
     with_pools = pools(rng) if rng.random() < 0.7 else []
-    return Configuration(lists(rng, echo_port, local_minute), classes(rng), rules, with_pools, rng.choice([0, 50, 100]), extra)
+    return Configuration(lists(rng, echo_port, local_minute), classes(rng), rules, with_pools, rng.choice([0, 50, 100]), field_rules(rng), extra)
 
 
 # What makes a configuration faulty as its last line, and the kind by the table of docs/CONFIGURATION.md.

@@ -9,7 +9,7 @@ from typing import Any
 
 from .model import Configuration, read_target
 from .oracle import Oracle, Verdict
-from .replies import CONTINUE, Sent, denial, head_at_origin, own, plan_of, reply
+from .replies import CONTINUE, Passes, Sent, denial, head_at_origin, own, plan_of, reply
 
 
 @lru_cache(maxsize=64)
@@ -58,9 +58,20 @@ class Judge:
         if not sent.whole:
             return Wanted(b"", True, False)
         plan = plan_of(target.path, sent.data())
-        bytes_, closes = reply(sent, plan)
+        bytes_, closes = reply(sent, plan, self.passes("reply", verdict))
         is_loose = plan.is_loose or sent.number in self.left
         return Wanted(bytes_, closes, plan.works or sent.method == "HEAD" and plan.of_head is not None, is_loose)
+
+    def passes(self, side: str, verdict: Verdict) -> Passes:
+        """Which fields go on, by the configuration that judged the request, and what it saw of it."""
+        config = self.oracle.configs[verdict.epoch]
+
+        def passes(name: str) -> bool:
+            goes = config.passes(side, name, verdict.sight)
+            self.counts[f"fields of a {side} that did not go on"] += not goes
+            return goes
+
+        return passes
 
     def connection(self, record: dict[str, Any]) -> None:
         address, port = record["address"], record["port"]
@@ -166,7 +177,7 @@ class Judge:
                     self.odd(f"a request reached origins twice: {head!r}", identity)
                 else:
                     sent, address = known
-                    wanted = head_at_origin(sent, address).decode("latin-1")
+                    wanted = head_at_origin(sent, address, self.passes("request", verdict)).decode("latin-1")
                     if head != wanted:
                         self.odd(f"an origin got the head {head!r}, and not {wanted!r}", identity)
                     if record["whole"] and sent.body is not None and sent.whole:

@@ -86,6 +86,22 @@ class Pool:
     rules: tuple[Rule, ...]
 
 
+@dataclass(frozen=True)
+class FieldRule:
+    """A rule of header access: of which side, `request` or `reply`, and of which field, or of `All`."""
+
+    side: str
+    name: str
+    rule: Rule
+
+    def text(self) -> str:
+        return f"{self.side}_header_access {self.name} {self.rule.text()}"
+
+
+# What goes on whatever rules of fields say.
+STAYING = {"host", "content-length", "transfer-encoding", "connection"}
+
+
 @dataclass
 class Sight:
     """What a check sees."""
@@ -190,6 +206,7 @@ class Configuration:
         rules: list[Rule],
         pools: list[Pool],
         initial: int = 50,
+        field_rules: list[FieldRule] | None = None,
         extra: str = "",
     ) -> None:
         self.acls = PREDEFINED | {acl.name: acl for acl in acls}
@@ -197,9 +214,11 @@ class Configuration:
         self.rules = rules
         self.pools = pools
         self.initial = initial
+        self.field_rules = field_rules or []
         lines = [cls.text for cls in classes]
         lines += [acl.text() for acl in acls]
         lines += ["http_access " + rule.text() for rule in rules]
+        lines += [one.text() for one in self.field_rules]
         if pools:
             lines.append(f"delay_pools {len(pools)}\ndelay_initial_bucket_level {initial}\n")
         for number, pool in enumerate(pools, 1):
@@ -325,19 +344,26 @@ class Configuration:
                 text = ", ".join(values) if values else None
         return in_key(None if text is None else text.encode("latin-1"))
 
+    def allows(self, rules: list[Rule], sight: Sight) -> bool:
+        """What rules without helpers decide: the first that matches, or else the opposite of the last."""
+        for rule in rules:
+            if self.all_of(rule.terms, sight, {}) is True:
+                return rule.allow
+        return not rules[-1].allow
+
+    def passes(self, side: str, name: str, sight: Sight) -> bool:
+        """Whether a field of this name goes on: one of a request's to its origin, one of a reply's to its client."""
+        own = [one.rule for one in self.field_rules if one.side == side and one.name.lower() == name.lower()]
+        rules = own or [one.rule for one in self.field_rules if one.side == side and one.name == "All"]
+        return name.lower() in STAYING or not rules or self.allows(rules, sight)
+
     def pool_of(self, sight: Sight) -> int | None:
         """The place of the pool that takes the client, from 0."""
         for place, pool in enumerate(self.pools):
             if ":" in sight.address and pool.kind != 1:
                 continue
-            for rule in pool.rules:
-                if self.all_of(rule.terms, sight, {}) is True:
-                    if rule.allow:
-                        return place
-                    break
-            else:
-                if pool.rules and not pool.rules[-1].allow:
-                    return place
+            if pool.rules and self.allows(list(pool.rules), sight):
+                return place
         return None
 
     def buckets(self, place: int, address: str) -> list[tuple[tuple[int, int, int], int, int]]:

@@ -75,6 +75,7 @@ class Verdict:
     pool: int | None
     late: bool  # it was taken after its configuration had been replaced
     check: int
+    sight: Sight
 
 
 SHOWN = 12
@@ -264,7 +265,7 @@ class Oracle:
         place = self.configs[check.epoch].pool_of(check.sight)
         address, port = self.conns[check.conn]
         self.verdicts[check.identity] = Verdict(
-            check.epoch, outcome, address, port, check.asked, self.moment, place, check.epoch != self.epoch, check.number
+            check.epoch, outcome, address, port, check.asked, self.moment, place, check.epoch != self.epoch, check.number, check.sight
         )
         del self.unfinished[check.identity]
         del self.of_conn[check.conn]

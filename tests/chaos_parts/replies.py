@@ -2,10 +2,12 @@
 
 from dataclasses import dataclass, field
 from functools import lru_cache
+from typing import Callable
 
 PATTERN = bytes(range(33, 126)) * 64
 CONTINUE = b"HTTP/1.1 100 Continue\r\n\r\n"
 Fields = tuple[tuple[str, str], ...]
+Passes = Callable[[str], bool]  # whether a field of this name goes on
 
 
 @lru_cache(maxsize=256)
@@ -168,14 +170,19 @@ def denial(sent: Sent, outcome: str) -> tuple[bytes, bool]:
     return own("403 Forbidden", outcome, stays, sent.method), not stays
 
 
-def reply(sent: Sent, plan: Plan) -> tuple[bytes, bool]:
+def lines_of(front: str, fields: list[tuple[str, str]], passes: Passes) -> bytes:
+    """A head: its first line, and the fields that go on."""
+    return "\r\n".join([front, *(f"{name}: {value}" for name, value in fields if passes(name)), "", ""]).encode("latin-1")
+
+
+def reply(sent: Sent, plan: Plan, passes: Passes) -> tuple[bytes, bool]:
     """The reply to an allowed request that reached its origin, and whether the connection closes."""
     out = b""
     if sent.minor == 1 and sent.expects and sent.has_body():
         out = CONTINUE
     if sent.minor == 1:
         for at, line in enumerate(plan.interim[:16]):
-            out += f"{line}\r\nX-Hint: {at}\r\nVia: 1.1 aclproxy\r\n\r\n".encode()
+            out += lines_of(line, [("X-Hint", str(at)), ("Via", "1.1 aclproxy")], passes)
     if not plan.works and (plan.of_head is None or sent.method != "HEAD"):
         return out + own("502 Bad Gateway", "bad gateway", False, sent.method), True
     has_body = sent.method != "HEAD" and plan.frame != "none"
@@ -189,8 +196,7 @@ def reply(sent: Sent, plan: Plan) -> tuple[bytes, bool]:
     fields.append(("Via", f"1.{plan.minor} aclproxy"))
     if sent.closes() or has_body and to_close:
         fields.append(("Connection", "close"))
-    lines = [f"HTTP/1.1 {plan.status}", *(f"{name}: {value}" for name, value in fields), "", ""]
-    out += "\r\n".join(lines).encode("latin-1")
+    out += lines_of(f"HTTP/1.1 {plan.status}", fields, passes)
     if has_body:
         for piece in plan.pieces:
             out += b"%x\r\n%s\r\n" % (len(piece), piece) if plan.frame == "chunked" and sent.minor == 1 else piece
@@ -202,7 +208,7 @@ def reply(sent: Sent, plan: Plan) -> tuple[bytes, bool]:
 HOP_BY_HOP = {"host", "connection", "proxy-connection", "keep-alive", "te", "trailer", "transfer-encoding", "upgrade", "proxy-authorization", "expect"}
 
 
-def head_at_origin(sent: Sent, address: str) -> bytes:
+def head_at_origin(sent: Sent, address: str, passes: Passes) -> bytes:
     """The head that the origin has to get."""
     rest = sent.target.split("://", 1)[1]
     end = min((rest.index(c) for c in "/?" if c in rest), default=len(rest))
@@ -211,8 +217,8 @@ def head_at_origin(sent: Sent, address: str) -> bytes:
         path = "*" if sent.method == "OPTIONS" and not path else "/" + path
     listed = {word.strip().lower() for name, value in sent.fields if name.lower() == "connection" for word in value.split(",")}
     kept = [(n, v.strip(" \t")) for n, v in sent.fields if n.lower() not in HOP_BY_HOP and (n.lower() not in listed or n.lower() == "content-length")]
-    lines = [f"{sent.method} {path} HTTP/1.1", f"Host: {authority}", *(f"{name}: {value}" for name, value in kept)]
+    fields = [("Host", authority), *kept]
     if sent.chunked:
-        lines.append("Transfer-Encoding: chunked")
-    lines += [f"Via: 1.{sent.minor} aclproxy", f"X-Forwarded-For: {address}", "Connection: close", "", ""]
-    return "\r\n".join(lines).encode("latin-1")
+        fields.append(("Transfer-Encoding", "chunked"))
+    fields += [("Via", f"1.{sent.minor} aclproxy"), ("X-Forwarded-For", address), ("Connection", "close")]
+    return lines_of(f"{sent.method} {path} HTTP/1.1", fields, passes)
