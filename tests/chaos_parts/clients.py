@@ -14,6 +14,7 @@ from typing import Awaitable, Callable, TextIO
 
 from .origin import reset
 from .replies import PLANS, Sent, data
+from .rewrites import ANSWERS, LOSSES, SAYS
 
 FRONT = 600  # bytes of a reply that are kept as they came
 
@@ -43,6 +44,9 @@ class Connection:
     requests: list[Sent] = field(default_factory=list)
     rest: str = ""  # bytes behind the last reply that was waited for
     ended: float = 0.0
+    own: str = ""  # the status of the proxy's own reply to what is no request, and that one's method and target if it has any
+    line: str = ""
+    is_reset: bool = False  # whether the client ended it by a reset
     wrong: list[str] = field(default_factory=list)
 
 
@@ -91,6 +95,14 @@ class Client:
         return f"do-{self.random.choice(calm if kind < 0.85 else wild)}.{variant}"
 
     def path(self, what: str, word: str) -> str:
+        return self.front_of_path(what, word) + (self.mark() if self.random.random() < 0.25 else "")
+
+    def mark(self) -> str:
+        """What tells the program that rewrites what to do with this request."""
+        does = self.random.choice(ANSWERS[:6] * 5 + ANSWERS + LOSSES)
+        return f"/rw-{does}.{self.random.choice(sorted(SAYS))}/i{self.number}.{self.count}"
+
+    def front_of_path(self, what: str, word: str) -> str:
         kind = self.random.random()
         if kind < 0.6:
             return f"/{what}/h{self.random.randrange(1, 7)}/{word}"
@@ -373,6 +385,7 @@ class Client:
             return
         try:
             for _ in range(self.random.randrange(1, 6)):
+                sent.is_even = False
                 bytes_ = data(self.random.randrange(5000), self.random.randrange(1, 40_000))
                 sender = asyncio.create_task(self.put(bytes_))
                 while len(self.held) < len(bytes_):
@@ -383,6 +396,8 @@ class Client:
                     return
                 self.held.clear()
                 self.counts["tunnelled"] += len(bytes_)
+                sent.tunnelled += len(bytes_)
+                sent.is_even = True
         except Gone as gone:
             self.conn.wrong.append(f"a tunnel ended early: {gone}")
             return
@@ -404,7 +419,7 @@ class Client:
 
     async def and_away(self) -> None:
         for _ in range(self.random.randrange(1, 4)):
-            await self.put(self.begin(self.request("GET")).head())
+            await self.put(self.begin(self.request("GET", is_alone=False)).head())
         await asyncio.sleep(self.random.choice([0, 0.05]) * self.random.random())
 
     async def part_of_reply(self) -> None:
@@ -432,6 +447,7 @@ class Client:
 
     async def own_reply(self, status: str, body: str) -> None:
         """Takes a reply to what is no request: it has to be this, byte by byte, and then the end."""
+        self.conn.own = status[:3]
         try:
             while True:
                 await self.more()
@@ -464,19 +480,23 @@ class Client:
         }
         head = self.random.choice(sorted(heads))
         body = {"400": "bad request", "501": "not implemented", "431": "head too large"}[heads[head][:3]]
+        self.conn.line = head.split(" HTTP/")[0]
         await self.put(head.encode())
         await self.own_reply(heads[head], body)
 
     async def byte_by_byte(self) -> None:
         sent = self.begin(self.request())
-        for byte in sent.head():
-            await self.put(bytes([byte]))
+        head = sent.head()
+        # One with a very long field comes in larger pieces, so that it is whole before others may take its worker.
+        step = 1 + len(head) // 1000
+        for at in range(0, len(head), step):
+            await self.put(head[at : at + step])
             await asyncio.sleep(0.0005)
         if not await self.take(sent):
             await self.see_end()
 
     async def at_once(self) -> None:
-        all_ = [self.begin(self.request(followed=place < 2)) for place in range(3)]
+        all_ = [self.begin(self.request(followed=place < 2, is_alone=False)) for place in range(3)]
         await self.put(b"".join(sent.head() for sent in all_))
         for sent in all_:
             if not await self.take(sent):
@@ -526,7 +546,8 @@ class Client:
             except OSError:
                 # The link failed as it was used: the server had closed it.
                 self.counts["links that failed"] += 1
-            if self.random.random() < 0.35:
+            self.conn.is_reset = self.random.random() < 0.35
+            if self.conn.is_reset:
                 reset(self.writer)
             else:
                 self.writer.close()

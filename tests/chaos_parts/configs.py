@@ -4,7 +4,7 @@ import random
 import sys
 from pathlib import Path
 
-from .model import Acl, Configuration, FieldRule, HelperClass, Pool, Rule
+from .model import Acl, Configuration, FieldRule, HelperClass, Pool, Rewriter, Rule
 
 HERE = Path(__file__).resolve().parent
 
@@ -107,6 +107,21 @@ def rule_of(line: str) -> Rule:
     return Rule(words[0] == "allow", tuple(words[1:]))
 
 
+ABSENT = "./no-such-rewriter"  # a program that is not there
+
+
+def rewriter(rng: random.Random, number: int, http: int, nobody: int) -> Rewriter | None:
+    """The program that rewrites in a round: of four rounds one has none or one that is not there."""
+    children = rng.choice([2, 3, 4])
+    concurrency = 4 * (1 - number % 2)
+    program = f"{sys.executable} -I -S -B {HERE / 'rewriter.py'} {concurrency} {http} {nobody}"
+    if number % 4 == 3:
+        if number % 8 == 3:
+            return None
+        program = ABSENT
+    return Rewriter(program, children, rng.choice([0, 2 * children, 5000, 5000]), concurrency, rng.choice([0, 1]))
+
+
 def pools(rng: random.Random) -> list[Pool]:
     quiet = (Rule(True, ("quiet",)),)
     allowed = rng.choice([quiet, (Rule(False, ("!quiet",)), Rule(False, ("hours",)), Rule(True, ("all",)))])
@@ -124,7 +139,7 @@ def pools(rng: random.Random) -> list[Pool]:
     return [slow, fast]
 
 
-def make(rng: random.Random, echo_port: int, local_minute: int) -> Configuration:
+def make(rng: random.Random, echo_port: int, local_minute: int, rewriter: Rewriter | None) -> Configuration:
     kind = rng.random()
     chosen = rng.sample(RULES, rng.randrange(4, 14))
     last = ["allow all"] if kind < 0.85 else ["deny all"] if kind < 0.9 else ["deny refused"] if kind < 0.95 else []
@@ -134,7 +149,7 @@ def make(rng: random.Random, echo_port: int, local_minute: int) -> Configuration
     rules = [rule_of(line) for line in words]
     extra = rng.choice(["", "# the end", "cache_mem 8 MB\n", "\n\t# CR LF follow\r\n"])
     with_pools = pools(rng) if rng.random() < 0.7 else []
-    return Configuration(lists(rng, echo_port, local_minute), classes(rng), rules, with_pools, rng.choice([0, 50, 100]), field_rules(rng), extra)
+    return Configuration(lists(rng, echo_port, local_minute), classes(rng), rules, with_pools, rng.choice([0, 50, 100]), field_rules(rng), rewriter, extra)
 
 
 # What makes a configuration faulty as its last line, and the kind by the table of docs/CONFIGURATION.md.

@@ -7,9 +7,10 @@ from dataclasses import dataclass
 from functools import lru_cache
 from typing import Any
 
-from .model import Configuration, read_target
+from .model import Configuration, is_literal, read_target
 from .oracle import Oracle, Verdict
-from .replies import CONTINUE, Passes, Sent, denial, head_at_origin, own, plan_of, reply
+from .replies import CONTINUE, Passes, Sent, denial, elsewhere, head_at_origin, own, plan_of, reply
+from .rewrites import MARK, Asked, Fate, Program, fate_of
 
 
 @lru_cache(maxsize=64)
@@ -27,16 +28,29 @@ class Wanted:
     is_loose: bool = False
 
 
+@dataclass
+class World:
+    """The ports of the origin and of nobody, and how many clients there are."""
+
+    http: int
+    nobody: int
+    clients: int
+
+
 class Judge:
-    def __init__(self, oracle: Oracle, nobody: int, started: float) -> None:
+    def __init__(self, oracle: Oracle, world: World, started: float) -> None:
         self.oracle = oracle
-        self.nobody = nobody
+        self.world = world
         self.started = started  # by the clock, before the server was
         self.wrong: list[tuple[str, str]] = []  # what is wrong, and the request's identity
         self.counts: Counter[str] = Counter()
         self.sent: dict[str, tuple[Sent, str]] = {}
         self.left: set[str] = set()  # requests that an origin left before it had written its reply, since that took too long
         self.from_origin: set[str] = set()
+        self.at_origin: dict[str, dict[str, Any]] = {}  # of a request what an origin told
+        self.program: Program | None = None
+        self.asked: dict[str, Asked] = {}  # of a request the question to the program that rewrites
+        self.fates: dict[str, list[Fate]] = {}  # what may have become of a request, by what its client got
         self.of_bucket: defaultdict[tuple[int, tuple[int, int, int]], list[Sent]] = defaultdict(list)
         self.limits: dict[tuple[int, tuple[int, int, int]], tuple[int, int]] = {}
         self.fullest = 0.0
@@ -44,14 +58,73 @@ class Judge:
     def odd(self, what: str, identity: str) -> None:
         self.wrong.append((what, identity))
 
-    def wanted(self, sent: Sent, verdict: Verdict) -> Wanted:
+    def hear_program(self, log: str, killed: dict[int, float]) -> None:
+        """Reads what the processes of the program that rewrites told. To be called before the replies are looked at."""
+        rewriter = self.oracle.configs[1].rewriter
+        if rewriter is None:
+            return
+        self.program = Program(rewriter.concurrency)
+        self.program.read(log, killed)
+        for one in self.program.asked:
+            found = MARK.search(one.target)
+            if found and found[3] in self.asked:
+                self.odd("the program that rewrites was asked twice about it", found[3])
+            elif found:
+                self.asked[found[3]] = one
+
+    def possible(self, name: str, sent: Sent, verdict: Verdict) -> list[Fate]:
+        """What may become of a request that the rules allow: in most cases it is one thing."""
+        stays = Fate(sent.target)
+        asked = self.asked.get(sent.number)
+        if self.program is None or sent.method == "CONNECT" or not MARK.search(sent.target):
+            return [stays]
+        if asked is None:
+            rewriter = self.oracle.configs[1].rewriter
+            assert rewriter
+            is_excused = rewriter.program.startswith("./no-such") or rewriter.queue < self.world.clients
+            if not is_excused and sent.end and not self.program.ended_between(verdict.taken / 1000 - 1, sent.ended):
+                self.odd(f"{name}: the program that rewrites was not asked, though no process of it ended and its queue had room", sent.number)
+            self.counts["rewriter not asked"] += 1
+            return [stays]
+        self.counts[f"rewriter {'heard' if asked.is_heard else 'not heard'}"] += 1
+        if not asked.is_heard:
+            return [stays]
+        told = fate_of(sent.target, self.world.http, self.world.nobody)
+        return [told] if asked.is_sure else [told, stays]
+
+    def questions(self) -> None:
+        """Each question to the program that rewrites is about a request that was allowed, as its client sent it, and once at most."""
+        if self.program is None:
+            return
+        may: Counter[tuple[str, str, str]] = Counter()
+        for identity, (sent, address) in self.sent.items():
+            verdict = self.oracle.verdicts.get(identity)
+            if verdict is not None and verdict.outcome.startswith("allowed") and sent.method != "CONNECT":
+                may[sent.target, address, sent.method] += 1
+        for one in self.program.asked:
+            about = one.target, one.address, one.method
+            found = MARK.search(one.target)
+            identity = found[3] if found else ""
+            may[about] -= 1
+            if may[about] < 0:
+                self.odd(f"the program that rewrites was asked about {about}, and no such request was allowed or left", identity)
+            elif identity and one.at * 1000 < self.oracle.verdicts[identity].taken - 2:
+                self.odd(f"the program that rewrites was asked at {one.at}, before it was allowed", identity)
+        self.counts["questions to the program that rewrites"] += len(self.program.asked)
+        self.counts.update(self.program.counts)
+        for what in self.program.wrong:
+            self.odd(what, "")
+
+    def wanted(self, sent: Sent, verdict: Verdict, fate: Fate) -> Wanted:
         if not verdict.outcome.startswith("allowed"):
             bytes_, closes = denial(sent, verdict.outcome)
             return Wanted(bytes_, closes, False)
-        target = read_target(sent.method, sent.target)
+        if fate.location:
+            return Wanted(elsewhere(fate.status, fate.location), True, False)
+        target = read_target(sent.method, fate.target)
         if sent.method != "CONNECT" and target.scheme != "http":
             return Wanted(own("501 Not Implemented", "not implemented", False, sent.method), True, False)
-        if target.port == self.nobody:
+        if target.port == self.world.nobody:
             return Wanted(own("502 Bad Gateway", "bad gateway", False, sent.method), True, False)
         if sent.method == "CONNECT":
             return Wanted(b"HTTP/1.1 200 Connection established\r\n\r\n", True, False)
@@ -115,26 +188,18 @@ class Judge:
         self.times(name, sent, verdict)
         if not sent.end:
             return
-        wanted = self.wanted(sent, verdict)
-        if wanted.is_loose:
-            failed = (CONTINUE if wanted.bytes_.startswith(CONTINUE) else b"") + own("502 Bad Gateway", "bad gateway", False, sent.method)
-            if sent.digest == digest_of(failed):
-                wanted = Wanted(failed, True, False)
-        whole = len(wanted.bytes_)
-        if sent.got > whole or sent.digest != (digest_of(wanted.bytes_) if sent.got == whole else digest_of(wanted.bytes_[: sent.got])):
-            self.odd(
-                f"{name}: the journal says {verdict.outcome}; the client got {sent.got} bytes, {sent.front!r}, and not {whole}, {wanted.bytes_[:600]!r}",
-                sent.number,
-            )
+        fates = self.possible(name, sent, verdict) if verdict.outcome.startswith("allowed") else [Fate(sent.target)]
+        found = [(fate, wanted, self.misfit(sent, wanted)) for fate in fates for wanted in self.all_wanted(sent, verdict, fate)]
+        fits = [(fate, wanted) for fate, wanted, what in found if not what]
+        if not fits:
+            self.odd(f"{name}: the journal says {verdict.outcome}; {found[0][2]}", sent.number)
             return
-        # A server that closes with bytes of the client's unread resets the connection, and what it wrote may be lost on the way.
-        may_be_cut = wanted.is_loose or wanted.closes and (sent.body is not None or sent.followed) or sent.end == "left"
-        if sent.got < whole and not may_be_cut:
-            self.odd(f"{name}: of {whole} bytes came {sent.got}, {sent.front!r} ({sent.end})", sent.number)
-            return
-        if sent.end == "cut" and not wanted.closes and not wanted.is_loose:
-            self.odd(f"{name}: the connection was closed behind {sent.front!r}", sent.number)
-            return
+        self.fates[sent.number] = [fate for fate, _ in fits]
+        fate, wanted = fits[0]
+        if fate.location:
+            self.counts["sent elsewhere"] += 1
+        elif fate.target != sent.target:
+            self.counts["went on with another target"] += 1
         self.counts[f"compared {sent.front[9:12] or 'no reply'}"] += 1
         if wanted.from_origin:
             self.from_origin.add(sent.number)
@@ -143,6 +208,27 @@ class Judge:
                 for bucket, restore, most in config.buckets(verdict.pool, address):
                     self.of_bucket[verdict.epoch, bucket].append(sent)
                     self.limits[verdict.epoch, bucket] = (restore, most)
+
+    def all_wanted(self, sent: Sent, verdict: Verdict, fate: Fate) -> list[Wanted]:
+        """What may come for a fate: where an origin's end may overtake its reply, a 502 too."""
+        wanted = self.wanted(sent, verdict, fate)
+        if not wanted.is_loose:
+            return [wanted]
+        front = CONTINUE if wanted.bytes_.startswith(CONTINUE) else b""
+        return [wanted, Wanted(front + own("502 Bad Gateway", "bad gateway", False, sent.method), True, False)]
+
+    def misfit(self, sent: Sent, wanted: Wanted) -> str:
+        """What of a reply is not as it has to be."""
+        whole = len(wanted.bytes_)
+        if sent.got > whole or sent.digest != digest_of(wanted.bytes_[: sent.got]):
+            return f"the client got {sent.got} bytes, {sent.front!r}, and not {whole}, {wanted.bytes_[:600]!r}"
+        # A server that closes with bytes of the client's unread resets the connection, and what it wrote may be lost on the way.
+        may_be_cut = wanted.is_loose or wanted.closes and (sent.body is not None or sent.followed) or sent.end == "left"
+        if sent.got < whole and not may_be_cut:
+            return f"of {whole} bytes came {sent.got}, {sent.front!r} ({sent.end})"
+        if sent.end == "cut" and not wanted.closes and not wanted.is_loose:
+            return f"the connection was closed behind {sent.front!r}"
+        return ""
 
     def times(self, name: str, sent: Sent, verdict: Verdict) -> None:
         if verdict.asked < sent.began * 1000 - 2 or sent.ended and verdict.taken > sent.ended * 1000 + 2:
@@ -177,9 +263,13 @@ class Judge:
                     self.odd(f"a request reached origins twice: {head!r}", identity)
                 else:
                     sent, address = known
-                    wanted = head_at_origin(sent, address, self.passes("request", verdict)).decode("latin-1")
-                    if head != wanted:
-                        self.odd(f"an origin got the head {head!r}, and not {wanted!r}", identity)
+                    self.at_origin[identity] = record
+                    self.reached(record["at"], sent, verdict)
+                    passes = self.passes("request", verdict)
+                    fates = self.fates.get(identity) or self.possible(f"{sent.method} {sent.target}", sent, verdict)
+                    heads = [head_at_origin(sent, fate.target, address, passes).decode("latin-1") for fate in fates if not fate.location]
+                    if head not in heads:
+                        self.odd(f"an origin got the head {head!r}, and not {heads!r}", identity)
                     if record["whole"] and sent.body is not None and sent.whole:
                         if record["size"] != sent.body[1] or record["digest"] != digest_of(sent.data()):
                             self.odd(f"an origin got another body, of {record['size']} bytes", identity)
@@ -188,6 +278,17 @@ class Judge:
                 seen.add(identity)
         for identity in self.from_origin - seen:
             self.odd("a reply of an origin's came, and no origin had the request", identity)
+
+    def addresses(self, host: str, verdict: Verdict) -> set[str]:
+        """Where an origin of this host may be dialled."""
+        return {host} if is_literal(host) else {"127.0.0.1", "::1"}
+
+    def reached(self, at: str, sent: Sent, verdict: Verdict) -> None:
+        """An origin was reached where its host is."""
+        fates = self.fates.get(sent.number) or self.possible("", sent, verdict)
+        may = {address for fate in fates for address in self.addresses(read_target(sent.method, fate.target).host, verdict)}
+        if at not in may:
+            self.odd(f"an origin was reached at {at}, and not at one of {sorted(may)}", sent.number)
 
     def pools(self) -> None:
         """What came of a bucket up to a moment is no more than it held at first, and what was restored since.

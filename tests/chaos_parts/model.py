@@ -102,6 +102,23 @@ class FieldRule:
 STAYING = {"host", "content-length", "transfer-encoding", "connection"}
 
 
+@dataclass(frozen=True)
+class Rewriter:
+    """The program that rewrites. The one of the configuration with which a server began counts for its whole run."""
+
+    program: str
+    children: int
+    queue: int
+    concurrency: int
+    startup: int
+
+    def text(self) -> str:
+        return (
+            f"url_rewrite_program {self.program}\n"
+            f"url_rewrite_children {self.children} startup={self.startup} idle=1 concurrency={self.concurrency} queue-size={self.queue}\n"
+        )
+
+
 @dataclass
 class Sight:
     """What a check sees."""
@@ -207,6 +224,7 @@ class Configuration:
         pools: list[Pool],
         initial: int = 50,
         field_rules: list[FieldRule] | None = None,
+        rewriter: Rewriter | None = None,
         extra: str = "",
     ) -> None:
         self.acls = PREDEFINED | {acl.name: acl for acl in acls}
@@ -215,10 +233,12 @@ class Configuration:
         self.pools = pools
         self.initial = initial
         self.field_rules = field_rules or []
+        self.rewriter = rewriter
         lines = [cls.text for cls in classes]
         lines += [acl.text() for acl in acls]
         lines += ["http_access " + rule.text() for rule in rules]
         lines += [one.text() for one in self.field_rules]
+        lines += [rewriter.text()] if rewriter else []
         if pools:
             lines.append(f"delay_pools {len(pools)}\ndelay_initial_bucket_level {initial}\n")
         for number, pool in enumerate(pools, 1):

@@ -78,6 +78,16 @@ class Verdict:
     sight: Sight
 
 
+@dataclass
+class Session:
+    """A connection that a worker served: when it closed, and the checks that were asked on it."""
+
+    address: str
+    port: int
+    checks: list[int] = field(default_factory=list)
+    closed: float = float("inf")
+
+
 SHOWN = 12
 
 
@@ -108,6 +118,7 @@ class Oracle:
         self.kept: defaultdict[tuple[int, str], dict[str, tuple[str, float]]] = defaultdict(dict)
         self.verdicts: dict[str, Verdict] = {}
         self.unfinished: dict[str, int] = {}
+        self.sessions: defaultdict[int, list[Session]] = defaultdict(list)
         self.opened: Counter[tuple[str, int]] = Counter()
         self.asked: defaultdict[tuple[str, int], list[str]] = defaultdict(list)
         self.counts: Counter[str] = Counter()
@@ -171,6 +182,7 @@ class Oracle:
         conn, address, port = int(words[0]), words[1], int(words[2])
         self.must(conn not in self.conns and 1 <= conn <= self.workers and told == ["ok"], "this worker has a connection already")
         self.conns[conn] = (address, port)
+        self.sessions[conn].append(Session(address, port))
         self.addresses[address] += 1
         self.opened[address, port] += 1
 
@@ -178,6 +190,7 @@ class Oracle:
         conn = int(words[0])
         self.must(conn in self.conns and told == ["ok"], "no such connection is open")
         self.addresses[self.conns.pop(conn)[0]] -= 1
+        self.sessions[conn][-1].closed = self.moment
         check = self.of_conn.pop(conn, None)
         if check is not None:
             self.drop(check)
@@ -207,6 +220,7 @@ class Oracle:
         self.unfinished[identity] = check.number
         self.asked[address, port].append(identity)
         self.checks[check.number] = check
+        self.sessions[conn][-1].checks.append(check.number)
         self.of_conn[conn] = check.number
 
     def on_step(self, words: list[str], told: list[str], number: int) -> None:

@@ -84,19 +84,20 @@ class Origin:
                 self.tell(head=cut.partial.decode("latin-1"), whole=False)
             return
         heads.append(head)
+        at = writer.get_extra_info("sockname")[0]
         method, path = head.split(b" ", 2)[:2]
         if path.startswith(b"/hasty"):
             # It answers and closes, whatever is still to come.
             body = b""
-            self.tell(head=head.decode("latin-1"), whole=False)
+            self.tell(head=head.decode("latin-1"), at=at, whole=False)
         else:
             try:
                 body = await read_body(reader, head)
             except (asyncio.IncompleteReadError, OSError, ValueError):
-                self.tell(head=head.decode("latin-1"), whole=False)
+                self.tell(head=head.decode("latin-1"), at=at, whole=False)
                 return
             digest = hashlib.blake2b(body, digest_size=16).hexdigest()
-            self.tell(head=head.decode("latin-1"), whole=True, size=len(body), digest=digest)
+            self.tell(head=head.decode("latin-1"), at=at, whole=True, size=len(body), digest=digest)
         plan = plan_of(path.decode("latin-1"), body)
         for bytes_ in plan.written(method.decode()):
             writer.write(bytes_)

@@ -125,6 +125,7 @@ class Sent:
     expects: bool = False
     whole: bool = True
     followed: bool = False  # further requests were sent behind it before its reply came
+    is_alone: bool = True  # no other request was on its way when it was sent
     # What came: the bytes, their digest and first bytes, how it ended, and when.
     began: float = 0.0
     ended: float = 0.0
@@ -133,6 +134,8 @@ class Sent:
     front: str = ""
     end: str = ""  # whole, left, cut, slow, or none where nothing was waited for
     events: list[tuple[float, int]] = field(default_factory=list)
+    tunnelled: int = 0  # bytes that came back through its tunnel
+    is_even: bool = False  # as many as were sent into it
 
     def data(self) -> bytes:
         return data(*self.body) if self.body else b""
@@ -162,6 +165,11 @@ def own(status: str, body: str, stays: bool, method: str) -> bytes:
     lines = [f"HTTP/1.1 {status}", "Content-Type: text/plain", f"Content-Length: {len(body) + 1}"]
     lines += [] if stays else ["Connection: close"]
     return "\r\n".join([*lines, "", "" if method == "HEAD" else body + "\n"]).encode("ascii")
+
+
+def elsewhere(status: str, location: str) -> bytes:
+    """The reply that sends a client elsewhere."""
+    return f"HTTP/1.1 {status}\r\nLocation: {location}\r\nContent-Length: 0\r\nConnection: close\r\n\r\n".encode("ascii")
 
 
 def denial(sent: Sent, outcome: str) -> tuple[bytes, bool]:
@@ -208,9 +216,9 @@ def reply(sent: Sent, plan: Plan, passes: Passes) -> tuple[bytes, bool]:
 HOP_BY_HOP = {"host", "connection", "proxy-connection", "keep-alive", "te", "trailer", "transfer-encoding", "upgrade", "proxy-authorization", "expect"}
 
 
-def head_at_origin(sent: Sent, address: str, passes: Passes) -> bytes:
-    """The head that the origin has to get."""
-    rest = sent.target.split("://", 1)[1]
+def head_at_origin(sent: Sent, target: str, address: str, passes: Passes) -> bytes:
+    """The head that the origin has to get, of a request that goes on with this target."""
+    rest = target.split("://", 1)[1]
     end = min((rest.index(c) for c in "/?" if c in rest), default=len(rest))
     authority, path = rest[:end], rest[end:]
     if not path.startswith("/"):

@@ -17,10 +17,12 @@ from collections import Counter
 from pathlib import Path
 
 from . import clients, configs, origin
-from .judge import Judge, lines_of
-from .model import Configuration
+from .judge import Judge, World, lines_of
+from .logged import AccessJudge
+from .model import Configuration, Rewriter
 from .oracle import Oracle, Order
-from .server import Server, signal_one, until
+from .rewrites import Program
+from .server import Server, signal_one, slurp, until
 
 HERE = Path(__file__).resolve().parent
 SHOWN = 10  # contradictions of a round that are shown with their lines
@@ -57,6 +59,8 @@ class Round:
         self.orders: list[Order] = []
         self.tables: list[tuple[float, float, set[bytes]]] = []
         self.stopped: list[int] = []
+        self.logs: list[str] = []  # the files of the access log that were renamed
+        self.killed: dict[int, float] = {}
         self.slowest = 0.0
         self.offset = self.random.randrange(-840, 841)
         self.others: list[multiprocessing.process.BaseProcess] = []
@@ -79,7 +83,9 @@ class Round:
         return (int(time.time()) + 60 * self.offset) % 86_400 // 60
 
     def configuration(self) -> Configuration:
-        return configs.make(self.random, self.echo, self.local_minute())
+        """One more configuration. What one that is read later says of the program that rewrites has no effect."""
+        rewriter = self.random.choice([self.rewriter, self.rewriter, None, Rewriter(configs.ABSENT, 1, 0, 0, 0)])
+        return configs.make(self.random, self.echo, self.local_minute(), rewriter)
 
     def start(self) -> None:
         self.ports = origin.listeners(2)
@@ -92,10 +98,12 @@ class Round:
         self.reserved = socket.socket()
         self.reserved.bind(("127.0.0.1", self.nobody))
         self.table()
-        self.first = self.configuration()
+        self.rewriter = configs.rewriter(self.random, self.number, self.http, self.nobody)
+        self.first = configs.make(self.random, self.echo, self.local_minute(), self.rewriter)
         spill("first.conf", self.first.text)
         spill("squid.conf", self.first.text)
         spill("pids", "")
+        spill("rewriter.log", "")
         origins = context.Process(target=origin.run, args=(self.ports, "origins.log"), daemon=True)
         origins.start()
         self.others.append(origins)
@@ -105,7 +113,7 @@ class Round:
         port = free_port()
         words = ["squid.conf", "--port", str(port), "--workers", str(self.options.workers), "--utc-offset", str(self.offset)]
         self.started = time.time()
-        self.server = Server(self.options.program, words, "journal")
+        self.server = Server(self.options.program, words, "journal", more={"ACLPROXY_ACCESS_LOG": "access.log", "ACLPROXY_MESSAGES": "messages"})
         said = self.server.hear(self.options.patience)
         if said != f"listening {port}":
             raise SystemExit(f"chaos: the server says {said}; its folder is {self.folder}")
@@ -142,6 +150,9 @@ class Round:
             wanted = "kept old read"
         else:
             spill("squid.conf", config.text)
+        if rng.random() < 0.3 and os.path.exists("access.log"):
+            os.rename("access.log", f"access.log.{len(self.logs)}")
+            self.logs.append(f"access.log.{len(self.logs)}")
         ordered = time.time()
         self.server.order(rng.choice(["", "", "", "an order that is none\n", " reconfigure\n\n"]) + "reconfigure\n")
         said = self.server.hear(self.options.patience)
@@ -167,6 +178,7 @@ class Round:
         if live:
             pid = self.random.choice(live)
             if self.random.random() < 0.6:
+                self.killed[pid] = time.time()
                 self.counts["helpers killed"] += signal_one(pid, signal.SIGKILL, self.server.pid)
             elif signal_one(pid, signal.SIGSTOP, self.server.pid):
                 self.counts["helpers stopped"] += 1
@@ -215,7 +227,7 @@ class Round:
         if server.has_ended():
             self.odd("the server has ended by itself")
         else:
-            idle = 20 + 2 * sum(cls.children for cls in self.first.classes.values())
+            idle = 20 + 2 * sum(cls.children for cls in self.first.classes.values()) + 2 * (self.rewriter.children if self.rewriter else 0)
             until(self.options.patience, lambda: not server.unreaped() and server.files() <= idle)
             if server.unreaped() or server.files() > idle:
                 self.odd(f"while nobody asks it has {server.files()} files open, and {server.unreaped()} processes that were not reaped")
@@ -248,7 +260,7 @@ class Round:
                 line = Path(f"/proc/{word}/cmdline").read_bytes()
             except OSError:
                 continue
-            if b"chaos_parts/helper." in line:
+            if b"chaos_parts/helper." in line or b"chaos_parts/rewriter." in line:
                 out.append(int(word))
         return out
 
@@ -270,15 +282,20 @@ class Round:
         verified = self.verify()
         if verified != f"verified {oracle.entries}, status 0":
             self.odd(f"verify: {verified}; the journal has {oracle.entries} entries")
-        judge = Judge(oracle, self.nobody, self.started)
+        judge = Judge(oracle, World(self.http, self.nobody, self.options.clients), self.started)
+        judge.hear_program("rewriter.log", self.killed)
         judge.look_who_left("origins.log")
+        logged = AccessJudge(judge)
         began: Counter[tuple[str, int]] = Counter()
         with open("clients.log") as file:
             for line in file:
                 record = json.loads(line)
                 began[record["address"], record["port"]] += 1
+                logged.record(record)
                 judge.connection(record)
         judge.origins("origins.log")
+        judge.questions()
+        logged.look([*self.logs, "access.log"], slurp("messages"))
         judge.connections(oracle.opened, began)
         judge.pools()
         for identity in [*oracle.verdicts, *oracle.unfinished]:
@@ -291,6 +308,7 @@ class Round:
         if len(judge.wrong) > 10 * SHOWN:
             self.odd(f"and {len(judge.wrong) - 10 * SHOWN} more")
         self.counts.update(judge.counts)
+        self.counts.update({f"log: {name}": count for name, count in logged.counts.items()})
         self.counts.update({f"journal: {name}": count for name, count in oracle.counts.items()})
         self.counts["entries verified"] += oracle.entries
         self.most["percent of its bound that a bucket gave"] = int(100 * judge.fullest)
@@ -386,7 +404,7 @@ def main() -> int:
         if wrong > 1000:
             break
     signal.alarm(0)
-    for title, names in (("journal: ", "the journal"), ("clients: ", "clients")):
+    for title, names in (("journal: ", "the journal"), ("clients: ", "clients"), ("log: ", "the access log")):
         told = ", ".join(f"{name[len(title):]} {count}" for name, count in sorted(counts.items()) if name.startswith(title))
         print(f"chaos: {names}: {told}")
     print("chaos: " + ", ".join(f"{name} {count}" for name, count in sorted(counts.items()) if ": " not in name))
