@@ -64,7 +64,7 @@ def main() -> None:
             for byte in (answer + "\n").encode():
                 os.write(1, bytes([byte]))
                 time.sleep(0.0005)
-        elif does == "twice":
+        elif does == "twice" and not concurrency:
             put(answer, front + UNINVITED)
         elif does == "after":
             put(answer)
