@@ -14,6 +14,7 @@ from typing import Awaitable, Callable, TextIO
 
 from .origin import reset
 from .replies import PLANS, Sent, data
+from .resolver import WORDS
 from .rewrites import ANSWERS, LOSSES, SAYS
 
 FRONT = 600  # bytes of a reply that are kept as they came
@@ -28,6 +29,7 @@ class World:
     echo: int
     nobody: int
     has_six: bool
+    has_names: bool
     until: float
     patience: float
     seed: str
@@ -77,7 +79,15 @@ class Client:
             return "::1"
         return f"127.0.0.{1 + self.random.randrange(8)}"
 
+    def name(self) -> str:
+        """A name that the test's own name server is asked for."""
+        kind = self.random.random()
+        word = "dead" if kind < 0.01 else "slow" if kind < 0.05 else self.random.choice(WORDS)
+        return f"{word if self.world.has_six or word != 'six' else 'one'}-{self.random.randrange(4 if kind < 0.01 else 20)}.test"
+
     def host(self) -> str:
+        if self.world.has_names and self.random.random() < 0.25:
+            return self.name()
         kind = self.random.random()
         if kind < 0.6:
             return "127.0.0.1"

@@ -4,7 +4,7 @@ import random
 import sys
 from pathlib import Path
 
-from .model import Acl, Configuration, FieldRule, HelperClass, Pool, Rewriter, Rule
+from .model import Acl, Configuration, FieldRule, HelperClass, LookUps, Pool, Rewriter, Rule
 
 HERE = Path(__file__).resolve().parent
 
@@ -42,6 +42,8 @@ def lists(rng: random.Random, echo_port: int, local_minute: int) -> list[Acl]:
         Acl("quiet", "src", (("127.0.1.0/24", "127.0.2.0/255.255.255.0"),)),
         Acl("byname", "dstdomain", (("LOCALHOST",),)),
         Acl("byaddress", "dst", (("127.0.0.0/8", "::1"),)),
+        Acl("inner", "dst", (("127.1.0.0/16",),)),
+        Acl("near", "dst", (("127.0.0.0/29",), ("::1",))),
         Acl("echoes", "port", ((str(echo_port), "1-99"),)),
         Acl("posts", "method", (("POST", "PUT"),)),
         Acl("plain", "proto", (("HTTP",),)),
@@ -79,6 +81,10 @@ RULES = [
     "deny byname h1 !known",
     "deny byaddress h4 narrow",
     "deny !week",
+    "deny inner",
+    "deny posts inner",
+    "allow near h5",
+    "deny !near h2 odd",
     "deny h1 h2",
     "allow localhost byname posts",
     "deny manager",
@@ -139,17 +145,18 @@ def pools(rng: random.Random) -> list[Pool]:
     return [slow, fast]
 
 
-def make(rng: random.Random, echo_port: int, local_minute: int, rewriter: Rewriter | None) -> Configuration:
+def make(rng: random.Random, echo_port: int, local_minute: int, rewriter: Rewriter | None, has_names: bool) -> Configuration:
     kind = rng.random()
     chosen = rng.sample(RULES, rng.randrange(4, 14))
     last = ["allow all"] if kind < 0.85 else ["deny all"] if kind < 0.9 else ["deny refused"] if kind < 0.95 else []
-    words = ["deny outside", "deny refused", *chosen, *last]
+    lookups = LookUps(rng.choice([2, 8]), rng.choice([4, 64])) if has_names and rng.random() < 0.65 else None
+    words = ["deny outside", "deny refused", *(["deny inner"] if lookups and rng.random() < 0.5 else []), *chosen, *last]
     if kind >= 0.985:
         words = []
     rules = [rule_of(line) for line in words]
     extra = rng.choice(["", "# the end", "cache_mem 8 MB\n", "\n\t# CR LF follow\r\n"])
     with_pools = pools(rng) if rng.random() < 0.7 else []
-    return Configuration(lists(rng, echo_port, local_minute), classes(rng), rules, with_pools, rng.choice([0, 50, 100]), field_rules(rng), rewriter, extra)
+    return Configuration(lists(rng, echo_port, local_minute), classes(rng), rules, with_pools, rng.choice([0, 50, 100]), field_rules(rng), rewriter, lookups, extra)
 
 
 # What makes a configuration faulty as its last line, and the kind by the table of docs/CONFIGURATION.md.

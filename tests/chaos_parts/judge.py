@@ -7,9 +7,10 @@ from dataclasses import dataclass
 from functools import lru_cache
 from typing import Any
 
-from .model import Configuration, is_literal, read_target
-from .oracle import Oracle, Verdict
+from .model import LOOKUP, MISS, Configuration, in_range, is_literal, read_target
+from .oracle import Oracle, Verdict, lookup_of
 from .replies import CONTINUE, Passes, Sent, denial, elsewhere, head_at_origin, own, plan_of, reply
+from .resolver import HAS, STATIC
 from .rewrites import MARK, Asked, Fate, Program, fate_of
 
 
@@ -124,7 +125,7 @@ class Judge:
         target = read_target(sent.method, fate.target)
         if sent.method != "CONNECT" and target.scheme != "http":
             return Wanted(own("501 Not Implemented", "not implemented", False, sent.method), True, False)
-        if target.port == self.world.nobody:
+        if target.port == self.world.nobody or not is_found(target.host):
             return Wanted(own("502 Bad Gateway", "bad gateway", False, sent.method), True, False)
         if sent.method == "CONNECT":
             return Wanted(b"HTTP/1.1 200 Connection established\r\n\r\n", True, False)
@@ -279,16 +280,24 @@ class Judge:
         for identity in self.from_origin - seen:
             self.odd("a reply of an origin's came, and no origin had the request", identity)
 
-    def addresses(self, host: str, verdict: Verdict) -> set[str]:
+    def addresses(self, host: str, sent: Sent, verdict: Verdict) -> set[str]:
         """Where an origin of this host may be dialled."""
-        return {host} if is_literal(host) else {"127.0.0.1", "::1"}
+        return {host} if is_literal(host) else self.oracle.said.addresses(host, sent.ended or verdict.taken / 1000 + 60)
 
     def reached(self, at: str, sent: Sent, verdict: Verdict) -> None:
-        """An origin was reached where its host is."""
+        """An origin was reached where its host is, and at no address that a list had to see and did not."""
         fates = self.fates.get(sent.number) or self.possible("", sent, verdict)
-        may = {address for fate in fates for address in self.addresses(read_target(sent.method, fate.target).host, verdict)}
+        hosts = {read_target(sent.method, fate.target).host for fate in fates}
+        may = {address for host in hosts for address in self.addresses(host, sent, verdict)}
         if at not in may:
             self.odd(f"an origin was reached at {at}, and not at one of {sorted(may)}", sent.number)
+        for (cls, key), answer in verdict.answers.items():
+            if cls == LOOKUP and answer == MISS:
+                name, acl, _ = key.split(" ")
+                self.counts["names that were dialled where a rule had looked"] += 1
+                values = self.oracle.configs[verdict.epoch].acls[lookup_of(acl)].values
+                if name in hosts and len(hosts) == 1 and any(in_range(value, at) for value in values):
+                    self.odd(f"the origin {name} was reached at {at}, and the rules had it that it is not in {lookup_of(acl)}", sent.number)
 
     def pools(self) -> None:
         """What came of a bucket up to a moment is no more than it held at first, and what was restored since.
@@ -346,6 +355,11 @@ class Judge:
         for (address, port), count in opened.items():
             if count > began[address, port]:
                 self.odd(f"a connection from {address} {port} was opened {count} times, and there were {began[address, port]}", "")
+
+
+def is_found(host: str) -> bool:
+    """Whether there is such a host."""
+    return is_literal(host) or host in STATIC or host.endswith(".test") and host.split("-")[0] in HAS
 
 
 def identity_of(head: str) -> str:

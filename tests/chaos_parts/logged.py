@@ -7,8 +7,8 @@ from typing import Any, Iterator
 
 from access import DROPPED, LINE
 
-from .judge import Judge
-from .model import is_literal, read_target
+from .judge import Judge, is_found
+from .model import read_target
 from .oracle import Session, Verdict
 from .replies import Sent, plan_of
 from .rewrites import Fate
@@ -184,7 +184,7 @@ class AccessJudge:
             return f"the origin is {way}"
         if line.parts["type"] != ("-" if status == "000" else kind(status)):
             return "its type is another"
-        is_dialled = "HIER_NONE/-" not in way
+        is_dialled = wanted in ("TCP_MISS", "TCP_TUNNEL")
         if (line.number("up") >= 0) != is_dialled and line.cause != "client_gone":
             return "it has an origin's bytes, or has none"
         return self.bytes_(line, sent, verdict, fate) if line.cause != "client_gone" else ""
@@ -199,12 +199,17 @@ class AccessJudge:
         target = read_target(sent.method, fate.target)
         if sent.method != "CONNECT" and target.scheme != "http":
             return "NONE", {"501"}, {""}, nowhere, own
-        way = {f"HIER_DIRECT/{address}" for address in self.judge.addresses(target.host, verdict)}
         code = "TCP_TUNNEL" if sent.method == "CONNECT" else "TCP_MISS"
 
         def by_status(status: str) -> str:
             return "text/plain" if status == "502" else "-"
 
+        if not is_found(target.host):
+            word = target.host.split("-")[0]
+            return code, {"502"}, {"lookup_failed" if word in ("broken", "dead") else "name_not_found"}, nowhere, own
+        record = self.judge.at_origin.get(sent.number)
+        addresses = {record["at"]} if record else self.judge.addresses(target.host, sent, verdict)
+        way = {f"HIER_DIRECT/{address}" for address in addresses}
         if target.port == self.judge.world.nobody:
             return code, {"502"}, {"refused"}, way, own
         if sent.method == "CONNECT":

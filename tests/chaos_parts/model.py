@@ -6,7 +6,7 @@ from dataclasses import dataclass, field
 from functools import lru_cache
 from typing import Union
 
-from .words import in_key, percent_decoded
+from .words import escape, in_key, percent_decoded
 
 Address = Union[ipaddress.IPv4Address, ipaddress.IPv6Address]
 
@@ -100,6 +100,36 @@ class FieldRule:
 
 # What goes on whatever rules of fields say.
 STAYING = {"host", "content-length", "transfer-encoding", "connection"}
+
+
+LOOKUP = "dst lookup"  # the class of look-ups
+
+
+@dataclass(frozen=True)
+class LookUps:
+    """`dst_lookup on`: how many look-ups are under way at once, and how many further questions wait."""
+
+    children: int
+    queue: int
+
+    def text(self) -> str:
+        return f"dst_lookup on queue-size={self.queue} children-max={self.children}\n"
+
+    def cls(self) -> HelperClass:
+        return HelperClass(LOOKUP, 60, 60, ("%>rd", "%ACL"), self.queue, self.children, 0, self.text())
+
+
+def looked_up(acl: Acl) -> dict[str, Acl]:
+    """The lists that are made of one of type `dst` for look-ups."""
+    name = acl.name
+    made = [
+        Acl("dst literal", "dst", (("all",),)),
+        Acl(f"{name} literal", "dst", acl.lines),
+        Acl(f"{name} lookup", "external", ((LOOKUP,),)),
+        Acl(f"{name} named", "all-of", (("!dst literal", f"{name} lookup"),)),
+        Acl(name, "any-of", ((f"{name} literal", f"{name} named"),)),
+    ]
+    return {one.name: one for one in made}
 
 
 @dataclass(frozen=True)
@@ -225,6 +255,7 @@ class Configuration:
         initial: int = 50,
         field_rules: list[FieldRule] | None = None,
         rewriter: Rewriter | None = None,
+        lookups: LookUps | None = None,
         extra: str = "",
     ) -> None:
         self.acls = PREDEFINED | {acl.name: acl for acl in acls}
@@ -234,7 +265,12 @@ class Configuration:
         self.initial = initial
         self.field_rules = field_rules or []
         self.rewriter = rewriter
-        lines = [cls.text for cls in classes]
+        lines = [lookups.text()] if lookups else []
+        if lookups:
+            self.classes[LOOKUP] = lookups.cls()
+            for acl in [one for one in self.acls.values() if one.kind == "dst"]:
+                self.acls |= looked_up(acl)
+        lines += [cls.text for cls in classes]
         lines += [acl.text() for acl in acls]
         lines += ["http_access " + rule.text() for rule in rules]
         lines += [one.text() for one in self.field_rules]
@@ -318,7 +354,7 @@ class Configuration:
             if isinstance(got, Need):
                 return got
             if isinstance(got, Fault):
-                return f"denied fault {number} {got.acl} {got.cause}"
+                return f"denied fault {number} {escape(got.acl.encode())} {got.cause}"
             if got:
                 return f"{'allowed' if rule.allow else 'denied'} rule {number}"
         if not self.rules:

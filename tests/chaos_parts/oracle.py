@@ -9,8 +9,9 @@ from collections import Counter, defaultdict
 from dataclasses import dataclass, field
 from typing import Iterator
 
-from .model import HIT, MISS, Answers, Configuration, Need, Sight, read_target
-from .words import escape, unescape
+from .model import HIT, LOOKUP, MISS, Answers, Configuration, Need, Sight, read_target
+from .resolver import Answers as Said
+from .words import escape, percent_decoded, unescape
 
 REPLY = re.compile(
     rb'(?:(0|[1-9][0-9]*) )?(OK|ERR|BH)(?: +(?:[A-Za-z0-9_-]+=(?:"(?:[^"\\]|\\.)*"|[^" ][^ ]*|)|[^ ="]+))* *\r?', re.DOTALL
@@ -76,6 +77,7 @@ class Verdict:
     late: bool  # it was taken after its configuration had been replaced
     check: int
     sight: Sight
+    answers: Answers
 
 
 @dataclass
@@ -95,9 +97,15 @@ class Contradiction(Exception):
     pass
 
 
+def lookup_of(acl: str) -> str:
+    """The list with the values of one that asks for a look-up, by its name in a key."""
+    return percent_decoded(acl.encode("ascii")).decode("ascii").removesuffix(" lookup") + " literal"
+
+
 class Oracle:
-    def __init__(self, first: Configuration, orders: list[Order], tables: list[tuple[float, float, set[bytes]]], offset: int, workers: int) -> None:
+    def __init__(self, first: Configuration, orders: list[Order], tables: list[tuple[float, float, set[bytes]]], offset: int, workers: int, said: Said) -> None:
         self.orders = orders
+        self.said = said
         self.tables = tables
         self.offset = offset
         self.workers = workers
@@ -279,7 +287,7 @@ class Oracle:
         place = self.configs[check.epoch].pool_of(check.sight)
         address, port = self.conns[check.conn]
         self.verdicts[check.identity] = Verdict(
-            check.epoch, outcome, address, port, check.asked, self.moment, place, check.epoch != self.epoch, check.number, check.sight
+            check.epoch, outcome, address, port, check.asked, self.moment, place, check.epoch != self.epoch, check.number, check.sight, check.answers
         )
         del self.unfinished[check.identity]
         del self.of_conn[check.conn]
@@ -373,6 +381,8 @@ class Oracle:
 
     def truth(self, proc: Process, question: Question, word: str, bytes_: bytes) -> None:
         """What the helper should have said: by the key's own words, and by the table that it had."""
+        if question.cls == LOOKUP:
+            return self.looked_up(proc, question, word)
         told = TOLD.search(bytes_)
         self.must(told is not None, "no helper says so")
         assert told is not None
@@ -402,6 +412,14 @@ class Oracle:
             wanted = {"ok": "OK", "bh": "BH", "slow": "OK", "trickle": "OK", "cr": "OK", "twice": "OK"}.get(do, "ERR")
         self.must(word == wanted, f"the helper says {wanted} to {question.key}")
         self.counts["answers of helpers"] += 1
+
+    def looked_up(self, proc: Process, question: Question, word: str) -> None:
+        """What a look-up should have said: by what the name server did."""
+        name, acl, _ = question.key.split(" ")
+        values = self.configs[proc.epoch].acls[lookup_of(acl)].values
+        may = self.said.shown(name, values, self.moment / 1000)
+        self.must(word in may, f"by the name server it is one of {sorted(may)}")
+        self.counts[f"look-ups that say {word}"] += 1
 
     def reconfigure(self, word: str, told: list[str]) -> None:
         self.epoch += 1

@@ -14,16 +14,27 @@ LIFE = 60.0  # seconds of a link of HTTP: on a machine that is too busy it ends 
 TUNNEL = 300.0  # those of one that sends back
 
 
+PLACES = ("127.0.0.1", "127.0.0.9", "127.1.0.9", "::1")  # the addresses of the origins; the last one where there is such
+
+
 def listeners(count: int) -> list[list[socket.socket]]:
-    """So many ports of 127.0.0.1, and of ::1 where there is one, each with its sockets."""
+    """So many ports, each with a socket at each of the addresses."""
     out: list[list[socket.socket]] = []
     while len(out) < count:
-        four = socket.create_server(("127.0.0.1", 0), backlog=1024)
-        try:
-            six = socket.create_server(("::1", four.getsockname()[1]), family=socket.AF_INET6, backlog=1024)
-            out.append([four, six])
-        except OSError:
-            out.append([four])
+        sockets: list[socket.socket] = []
+        port = 0
+        for place in PLACES:
+            try:
+                sockets.append(socket.create_server((place, port), family=socket.AF_INET6 if ":" in place else socket.AF_INET, backlog=1024))
+                port = sockets[-1].getsockname()[1]
+            except OSError:
+                if ":" not in place:
+                    break
+        else:
+            out.append(sockets)
+            continue
+        for one in sockets:
+            one.close()
     return out
 
 

@@ -16,7 +16,7 @@ import time
 from collections import Counter
 from pathlib import Path
 
-from . import clients, configs, origin
+from . import clients, configs, origin, resolver
 from .judge import Judge, World, lines_of
 from .logged import AccessJudge
 from .model import Configuration, Rewriter
@@ -85,7 +85,7 @@ class Round:
     def configuration(self) -> Configuration:
         """One more configuration. What one that is read later says of the program that rewrites has no effect."""
         rewriter = self.random.choice([self.rewriter, self.rewriter, None, Rewriter(configs.ABSENT, 1, 0, 0, 0)])
-        return configs.make(self.random, self.echo, self.local_minute(), rewriter)
+        return configs.make(self.random, self.echo, self.local_minute(), rewriter, self.options.inside)
 
     def start(self) -> None:
         self.ports = origin.listeners(2)
@@ -99,7 +99,7 @@ class Round:
         self.reserved.bind(("127.0.0.1", self.nobody))
         self.table()
         self.rewriter = configs.rewriter(self.random, self.number, self.http, self.nobody)
-        self.first = configs.make(self.random, self.echo, self.local_minute(), self.rewriter)
+        self.first = configs.make(self.random, self.echo, self.local_minute(), self.rewriter, self.options.inside)
         spill("first.conf", self.first.text)
         spill("squid.conf", self.first.text)
         spill("pids", "")
@@ -110,6 +110,11 @@ class Round:
         for sockets in self.ports:
             for one in sockets:
                 one.close()
+        spill("names.log", "")
+        if self.options.inside:
+            names = context.Process(target=resolver.run, args=("names.log",), daemon=True)
+            names.start()
+            self.others.append(names)
         port = free_port()
         words = ["squid.conf", "--port", str(port), "--workers", str(self.options.workers), "--utc-offset", str(self.offset)]
         self.started = time.time()
@@ -117,9 +122,9 @@ class Round:
         said = self.server.hear(self.options.patience)
         if said != f"listening {port}":
             raise SystemExit(f"chaos: the server says {said}; its folder is {self.folder}")
-        has_six = len(self.ports[0]) > 1
+        has_six = len(self.ports[0]) == len(origin.PLACES)
         world = clients.World(
-            port, self.http, self.echo, self.nobody, has_six, time.time() + self.seconds, self.options.patience, f"{self.options.seed}.{self.number}"
+            port, self.http, self.echo, self.nobody, has_six, self.options.inside, time.time() + self.seconds, self.options.patience, f"{self.options.seed}.{self.number}"
         )
         self.until = world.until
         them = context.Process(target=clients.run, args=(world, self.options.clients, "clients.log"), daemon=True)
@@ -267,7 +272,7 @@ class Round:
     # What came of it.
 
     def judge(self) -> None:
-        oracle = Oracle(self.first, self.orders, self.tables, self.offset, self.options.workers)
+        oracle = Oracle(self.first, self.orders, self.tables, self.offset, self.options.workers, resolver.Answers("names.log"))
         with open("journal", encoding="ascii", errors="replace", newline="\n") as file:
             oracle.play(file)
         self.wrong += oracle.wrong
@@ -343,14 +348,21 @@ def main() -> int:
     parser.add_argument("--workers", type=int, default=16, help="workers of the server (16)")
     parser.add_argument("--round", type=int, default=0, help="the seconds of one server (half of all, from 10 to 300)")
     parser.add_argument("--patience", type=float, default=45.0, help="the seconds after which a wait is a contradiction (45)")
+    parser.add_argument("--plain", action="store_true", help="leave out what needs a name server, and so namespaces")
+    parser.add_argument("--inside", action="store_true", help=argparse.SUPPRESS)
     parser.add_argument("--program", default=str(HERE.parent.parent / "crates/sq_main/out/sq_main"))
     options = parser.parse_args()
     options.program = os.path.abspath(options.program)
     if not os.access(options.program, os.X_OK):
         parser.error(f"{options.program} is no program: build it first, or name it by --program")
+    if not options.inside and not options.plain:
+        resolver.enter(sys.argv[0], sys.argv[1:])
+        print("chaos: look-ups of names are left out, since this machine gives no namespaces", flush=True)
     length = options.round or max(10, min(300, options.seconds // 2))
     top = tempfile.mkdtemp(prefix="chaos.")
     os.chdir(top)
+    if options.inside:
+        resolver.settle(top)
     current: list[Round] = []
 
     def give_up(*_: object) -> None:
