@@ -345,7 +345,10 @@ class Client:
         for _ in range(self.random.randrange(1, 3)):
             size = self.random.choice([1000, 20_000, 60_000, 120_000])
             sent = self.request("GET", f"sized.{size}")
-            sent.target = f"http://{self.random.choice(['127.0.0.1', 'localhost'])}:{self.world.http}/sized.{size}/x"
+            tagging = self.random.random() < 0.6
+            sent.target = f"http://{self.random.choice(['127.0.0.1', 'localhost'])}:{self.world.http}/sized.{size}/{'tag/x' if tagging else 'x'}"
+            if tagging:
+                sent.fields = [one for one in sent.fields if one[0].lower() != "x-word"] + [("X-Word", f"do-tag.{self.random.randrange(8)}")]
             if not await self.ask(sent):
                 return await self.see_end()
         await asyncio.sleep(self.random.random() * 0.5)

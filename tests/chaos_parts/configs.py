@@ -23,6 +23,7 @@ def classes(rng: random.Random) -> list[HelperClass]:
         python_class("names", 0, "%>rd %>{X-Word} %METHOD", ttl, 2 * ttl, 3, 60, "grace=50 "),
         python_class("channels", 4, "%>{x-word} %ACL %%", 2, 2, 2, 40, "children-startup=1 "),
         python_class("tight", 0, "%SRC %>{X-Word} %DATA", 1, 1, 1, 0, ""),
+        python_class("tags", 0, "%>a %>{X-Word}", 1, 1, 3, 40, ""),
         HelperClass(
             "paths", 1, 1, ("%PATH", "%PROTO", "%PORT"), 20, 2, 0, f"external_acl_type paths ttl=1 children-max=2 queue-size=20 %PATH %PROTO %PORT /bin/sh {HERE / 'helper.sh'}\n"
         ),
@@ -55,6 +56,8 @@ def lists(rng: random.Random, echo_port: int, local_minute: int) -> list[Acl]:
         Acl("other", "external", (("channels",),)),
         Acl("narrow", "external", (("tight", "x"),)),
         Acl("shelled", "external", (("paths",),)),
+        Acl("tagging", "url_regex", (("/tag/",),)),
+        Acl("tagged", "external", (("tags",),)),
         Acl("lost", "external", (("nowhere",),)),
         Acl("strange", "all-of", (("posts", "odd", "!byname"), ("echoes", "odd"))),
         Acl("asked", "any-of", (("!h2", "even"), ("shelled",))),
@@ -134,9 +137,9 @@ def pools(rng: random.Random) -> list[Pool]:
     restore = rng.choice([30000, 60000])
     pair = (restore, rng.choice([restore // 2, restore, 2 * restore]))
     wide = (2 * pair[0], 2 * pair[1])
-    kind = rng.randrange(1, 4)
-    if kind == 1:
-        slow = Pool(1, (wide,), allowed)
+    kind = rng.choice([1, 2, 3, 5, 5])
+    if kind in (1, 5):
+        slow = Pool(kind, (wide if kind == 1 else pair,), allowed)
     elif kind == 2:
         slow = Pool(2, (rng.choice([None, wide]), pair), allowed)
     else:
@@ -150,7 +153,8 @@ def make(rng: random.Random, echo_port: int, local_minute: int, rewriter: Rewrit
     chosen = rng.sample(RULES, rng.randrange(4, 14))
     last = ["allow all"] if kind < 0.85 else ["deny all"] if kind < 0.9 else ["deny refused"] if kind < 0.95 else []
     lookups = LookUps(rng.choice([2, 8]), rng.choice([4, 64])) if has_names and rng.random() < 0.65 else None
-    words = ["deny outside", "deny refused", *(["deny inner"] if lookups and rng.random() < 0.5 else []), *chosen, *last]
+    # The last term never holds: this rule asks for a tag and decides nothing.
+    words = ["deny outside", "deny refused", "deny tagging tagged !all", *(["deny inner"] if lookups and rng.random() < 0.5 else []), *chosen, *last]
     if kind >= 0.985:
         words = []
     rules = [rule_of(line) for line in words]

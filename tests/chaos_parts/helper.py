@@ -53,6 +53,10 @@ def main() -> None:
             put(err)
         elif do == b"bh":
             put(front + b"BH" + told)
+        elif do == b"tag":
+            # Who names what changes with the table.
+            tag = {b"5": b'"of ERR"', b"6": b"", b"7": b'"\\"first\\"\\n" tag=second'}.get(variant, b"t%d" % ((int(variant) + int(number)) % 3))
+            put((err if variant == b"5" else ok)[:-1] + (b" tag=" + tag if tag else b"") + b"\n")
         elif do == b"late":
             if channels:
                 late.append(ok if variant[-1:] in b"02468" else err)

@@ -7,7 +7,7 @@ from dataclasses import dataclass
 from functools import lru_cache
 from typing import Any
 
-from .model import LOOKUP, MISS, Configuration, in_range, is_literal, read_target
+from .model import LOOKUP, MISS, Bucket, Configuration, in_range, is_literal, read_target
 from .oracle import Oracle, Verdict, lookup_of
 from .replies import CONTINUE, Passes, Sent, denial, elsewhere, head_at_origin, own, plan_of, reply
 from .resolver import HAS, STATIC
@@ -52,8 +52,8 @@ class Judge:
         self.program: Program | None = None
         self.asked: dict[str, Asked] = {}  # of a request the question to the program that rewrites
         self.fates: dict[str, list[Fate]] = {}  # what may have become of a request, by what its client got
-        self.of_bucket: defaultdict[tuple[int, tuple[int, int, int]], list[Sent]] = defaultdict(list)
-        self.limits: dict[tuple[int, tuple[int, int, int]], tuple[int, int]] = {}
+        self.of_bucket: defaultdict[tuple[int, Bucket], list[Sent]] = defaultdict(list)
+        self.limits: dict[tuple[int, Bucket], tuple[int, int]] = {}
         self.fullest = 0.0
 
     def odd(self, what: str, identity: str) -> None:
@@ -206,7 +206,7 @@ class Judge:
             self.from_origin.add(sent.number)
             if verdict.pool is not None and not sent.expects:
                 config = self.oracle.configs[verdict.epoch]
-                for bucket, restore, most in config.buckets(verdict.pool, address):
+                for bucket, restore, most in config.buckets(verdict.pool, address, verdict.tag):
                     self.of_bucket[verdict.epoch, bucket].append(sent)
                     self.limits[verdict.epoch, bucket] = (restore, most)
 
@@ -320,7 +320,7 @@ class Judge:
                     steps.append((at * 1000, total - before, one))
                     before = total
             steps.sort(key=lambda step: step[0])
-            self.counts["buckets"] += 1
+            self.counts["buckets of tags" if isinstance(name[2], str) else "buckets"] += 1
             total = 0
             for at, count, one in steps:
                 total += count
@@ -333,7 +333,7 @@ class Judge:
             if not late:
                 self.quiet(epoch, name, all_, steps, restore, most)
 
-    def quiet(self, epoch: int, name: tuple[int, int, int], all_: list[Sent], steps: list[tuple[float, int, Sent]], restore: int, most: int) -> None:
+    def quiet(self, epoch: int, name: Bucket, all_: list[Sent], steps: list[tuple[float, int, Sent]], restore: int, most: int) -> None:
         """From a moment on at which nothing was on its way, no more comes than a full bucket and what was restored since."""
         for first in all_:
             start = first.began * 1000

@@ -160,6 +160,7 @@ class Sight:
     local_seconds: int
     connections: int
     truths: dict[str, bool] = field(default_factory=dict)
+    asked: list[tuple[str, str]] = field(default_factory=list)  # class and key of each external term, as the rules were gone through
 
 
 @dataclass(frozen=True)
@@ -175,6 +176,7 @@ class Fault:
     cause: str
 
 
+Bucket = tuple[int, int, Union[int, str]]  # the pool's place, the pair's, and of whom it is: a part of an address, or a tag
 HIT, MISS = "hit", "miss"
 # Of (class, key): HIT, MISS, or the cause of a fault.
 Answers = dict[tuple[str, str], str]
@@ -322,6 +324,7 @@ class Configuration:
         got: bool | Need | Fault
         if acl.kind == "external":
             need = Need(name, acl.values[0], self.key(acl, sight))
+            sight.asked.append((need.cls, need.key))
             answer = answers.get((need.cls, need.key))
             got = need if answer is None else answer == HIT if answer in (HIT, MISS) else Fault(name, answer)
         elif acl.kind == "any-of":
@@ -349,6 +352,7 @@ class Configuration:
 
     def judge(self, sight: Sight, answers: Answers) -> str | Need:
         """The outcome, in the words of a journal, or what has to be asked first."""
+        sight.asked.clear()
         for number, rule in enumerate(self.rules, 1):
             got = self.all_of(rule.terms, sight, answers)
             if isinstance(got, Need):
@@ -416,17 +420,19 @@ class Configuration:
     def pool_of(self, sight: Sight) -> int | None:
         """The place of the pool that takes the client, from 0."""
         for place, pool in enumerate(self.pools):
-            if ":" in sight.address and pool.kind != 1:
+            if ":" in sight.address and pool.kind in (2, 3):
                 continue
             if pool.rules and self.allows(list(pool.rules), sight):
                 return place
         return None
 
-    def buckets(self, place: int, address: str) -> list[tuple[tuple[int, int, int], int, int]]:
-        """The buckets of a client in a pool: what names each, how many bytes it gains in a second, and how many it holds."""
+    def buckets(self, place: int, address: str, tag: str | None) -> list[tuple[Bucket, int, int]]:
+        """The buckets of a request in a pool: what names each, how many bytes it gains in a second, and how many it holds."""
         pool = self.pools[place]
-        hosts = [0]
-        if pool.kind > 1:
+        hosts: list[int | str] = [0]
+        if pool.kind == 5:
+            hosts = [] if tag is None else [tag]
+        elif pool.kind > 1:
             third, fourth = (int(part) for part in address.split(".")[2:])
             hosts = [0, fourth] if pool.kind == 2 else [0, third, third * 256 + fourth]
         return [

@@ -16,6 +16,7 @@ from .words import escape, percent_decoded, unescape
 REPLY = re.compile(
     rb'(?:(0|[1-9][0-9]*) )?(OK|ERR|BH)(?: +(?:[A-Za-z0-9_-]+=(?:"(?:[^"\\]|\\.)*"|[^" ][^ ]*|)|[^ ="]+))* *\r?', re.DOTALL
 )
+PAIR = re.compile(rb' +(?:([A-Za-z0-9_-]+)=(?:"((?:[^"\\]|\\.)*)"|([^" ][^ ]*|))|[^ ="]+)', re.DOTALL)
 TOLD = re.compile(rb' message="([^"]*)"(?: log=g(\d+))?')
 
 
@@ -37,6 +38,7 @@ class Check:
     identity: str
     asked: float
     answers: Answers = field(default_factory=dict)
+    tags: dict[tuple[str, str], str | None] = field(default_factory=dict)
     waits: int | None = None
     is_done: bool = False
 
@@ -51,6 +53,7 @@ class Question:
     proc: int = 0
     # What came of it.
     answer: str | None = None
+    tag: str | None = None
 
 
 @dataclass
@@ -78,6 +81,7 @@ class Verdict:
     check: int
     sight: Sight
     answers: Answers
+    tag: str | None
 
 
 @dataclass
@@ -95,6 +99,20 @@ SHOWN = 12
 
 class Contradiction(Exception):
     pass
+
+
+# The tags that a helper names whatever its table is.
+TAGS = {"5": "of ERR", "6": None, "7": '"first"\n'}
+
+
+def named_by(line: bytes) -> str | None:
+    """The value of the first pair `tag` of a reply."""
+    for found in PAIR.finditer(line):
+        if found[1] == b"tag":
+            if found[2] is None:
+                return percent_decoded(found[3]).decode("latin-1")
+            return re.sub(rb"\\(.)", lambda one: {b"r": b"\r", b"n": b"\n"}.get(one[1], one[1]), found[2], flags=re.DOTALL).decode("latin-1")
+    return None
 
 
 def lookup_of(acl: str) -> str:
@@ -122,8 +140,8 @@ class Oracle:
         self.starting: Counter[tuple[int, str]] = Counter()
         self.living: Counter[tuple[int, str]] = Counter()
         self.unsent: defaultdict[tuple[int, str], set[int]] = defaultdict(set)
-        # Of (epoch, class): of a key the answer and its date.
-        self.kept: defaultdict[tuple[int, str], dict[str, tuple[str, float]]] = defaultdict(dict)
+        # Of (epoch, class): of a key the answer, its date and its tag.
+        self.kept: defaultdict[tuple[int, str], dict[str, tuple[str, float, str | None]]] = defaultdict(dict)
         self.verdicts: dict[str, Verdict] = {}
         self.unfinished: dict[str, int] = {}
         self.sessions: defaultdict[int, list[Session]] = defaultdict(list)
@@ -263,6 +281,7 @@ class Oracle:
                 answer = "QueueFull"
             self.counts[f"took {'kept' if fresh else answer}"] += 1
             check.answers[need.cls, need.key] = answer
+            check.tags[need.cls, need.key] = kept[2] if kept is not None and answer == fresh else None
             return
         self.must(told[0] == "waits", f"it should need class {need.cls}")
         self.must(fresh is None and len(need.key) <= 8192, "it should take a kept answer or a fault")
@@ -287,7 +306,7 @@ class Oracle:
         place = self.configs[check.epoch].pool_of(check.sight)
         address, port = self.conns[check.conn]
         self.verdicts[check.identity] = Verdict(
-            check.epoch, outcome, address, port, check.asked, self.moment, place, check.epoch != self.epoch, check.number, check.sight, check.answers
+            check.epoch, outcome, address, port, check.asked, self.moment, place, check.epoch != self.epoch, check.number, check.sight, check.answers, self.tag_of(check)
         )
         del self.unfinished[check.identity]
         del self.of_conn[check.conn]
@@ -295,6 +314,13 @@ class Oracle:
         # A list's name stands in a fault as an escaped word; those of the configurations here are as they are.
         wanted = f"epoch {check.epoch} {outcome}"
         self.must(" ".join(told) == wanted, f"it should be {wanted}")
+
+    def tag_of(self, check: Check) -> str | None:
+        """What the first helper that named a tag did, in the order in which the rules asked."""
+        tags = [check.tags.get(asked) for asked in check.sight.asked if check.answers.get(asked) in (HIT, MISS)]
+        named = [tag for tag in tags if tag is not None]
+        self.counts["requests with a tag"] += bool(named)
+        return named[0] if named else None
 
     def on_act(self, words: list[str], told: list[str], number: int) -> None:
         if told[0] == "start":
@@ -331,12 +357,13 @@ class Oracle:
             for at in sorted(self.unsent.pop(home, ())):
                 self.settle(at, "NoHelper")
 
-    def settle(self, at: int, answer: str) -> None:
+    def settle(self, at: int, answer: str, tag: str | None = None) -> None:
         """Gives a question its answer, and it to the checks that wait for it."""
         question = self.questions[at]
-        question.answer = answer
+        question.answer, question.tag = answer, tag
         for number in question.checks:
             self.checks[number].answers[question.cls, question.key] = answer
+            self.checks[number].tags[question.cls, question.key] = tag
         question.checks = set()
 
     def lose(self, number: int, cause: str) -> None:
@@ -370,13 +397,13 @@ class Oracle:
         question = self.questions[at]
         del proc.open[channel]
         answer = {"OK": HIT, "ERR": MISS, "BH": "Bh"}[word]
-        self.settle(at, answer)
+        self.settle(at, answer, named_by(bytes_))
         ttl = {HIT: cls.ttl, MISS: cls.negative_ttl}.get(answer)
         if ttl is not None:
             kept = self.kept[proc.epoch, proc.cls]
             kept.pop(question.key, None)
             if ttl > 0:
-                kept[question.key] = (answer, self.moment)
+                kept[question.key] = (answer, self.moment, question.tag)
         self.truth(proc, question, word, bytes_)
 
     def truth(self, proc: Process, question: Question, word: str, bytes_: bytes) -> None:
@@ -399,13 +426,16 @@ class Oracle:
         do, variant = (found[1], found[2] or "") if found else ("ok", "")
         if question.cls == "paths":
             wanted = {"err": "ERR", "bh": "BH"}.get(do, "OK")
-        elif do == "table":
+        elif do in ("table", "tag"):
             table = int(told[2])
             first, last, listed = self.tables[table]
             # A helper reads the table between question and answer. Moments are whole milliseconds.
             self.must(first * 1000 <= self.moment + 1 and question.sent - 1 <= last * 1000, f"table {table} did not hold then")
             wanted = "OK" if variant.encode() in listed else "ERR"
-            self.counts["answers by a table"] += 1
+            if do == "tag":
+                wanted = "ERR" if variant == "5" else "OK"
+                self.must(question.tag == TAGS.get(variant, f"t{(int(variant) + table) % 3}"), f"the helper does not name {question.tag}")
+            self.counts[f"answers by a {do}"] += 1
         elif do == "late":
             wanted = "OK" if variant[-1:] in "02468" else "ERR"
         else:
