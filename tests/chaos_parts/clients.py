@@ -32,6 +32,7 @@ class World:
     has_names: bool
     until: float
     patience: float
+    pause: float  # the seconds for which a client rests at most, between two requests of a connection or two words of a tunnel
     seed: str
 
 
@@ -334,12 +335,18 @@ class Client:
                 self.conn.wrong.append("the connection stays open behind a reply that closes it")
         self.conn.rest = self.held[:FRONT].decode("latin-1")
 
+    async def rest(self) -> None:
+        """Waits with an open connection, so that of many clients most are there at once and few ask."""
+        if self.world.pause:
+            await asyncio.sleep(min(self.random.random() * self.world.pause, max(0.0, self.world.until - time.time())))
+
     # What clients do.
 
     async def several(self) -> None:
         for _ in range(self.random.randrange(1, 7)):
             if not await self.ask(self.request()):
                 return await self.see_end()
+            await self.rest()
 
     async def pooled(self) -> None:
         for _ in range(self.random.randrange(1, 3)):
@@ -408,6 +415,7 @@ class Client:
                     self.conn.wrong.append("a tunnel gave other bytes back")
                     return
                 self.held.clear()
+                await self.rest()
                 self.counts["tunnelled"] += len(bytes_)
                 sent.tunnelled += len(bytes_)
                 sent.is_even = True

@@ -132,6 +132,7 @@ class Oracle:
         self.began = 0
         self.changed: dict[int, float] = {}  # when an epoch began
         self.conns: dict[int, tuple[str, int]] = {}
+        self.most_open = 0  # connections that were open at once
         self.addresses: Counter[str] = Counter()
         self.checks: dict[int, Check] = {}
         self.of_conn: dict[int, int] = {}
@@ -208,6 +209,7 @@ class Oracle:
         conn, address, port = int(words[0]), words[1], int(words[2])
         self.must(conn not in self.conns and 1 <= conn <= self.workers and told == ["ok"], "this worker has a connection already")
         self.conns[conn] = (address, port)
+        self.most_open = max(self.most_open, len(self.conns))
         self.sessions[conn].append(Session(address, port))
         self.addresses[address] += 1
         self.opened[address, port] += 1

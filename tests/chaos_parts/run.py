@@ -16,6 +16,8 @@ import time
 from collections import Counter
 from pathlib import Path
 
+from thousand_parts.proxies import raise_limit
+
 from . import clients, configs, origin, resolver
 from .judge import Judge, World, lines_of
 from .logged import AccessJudge
@@ -25,6 +27,7 @@ from .rewrites import Program
 from .server import Server, signal_one, slurp, until
 
 HERE = Path(__file__).resolve().parent
+CROWD = 100  # clients above which each of them rests between its requests
 SHOWN = 10  # contradictions of a round that are shown with their lines
 
 
@@ -123,9 +126,11 @@ class Round:
         if said != f"listening {port}":
             raise SystemExit(f"chaos: the server says {said}; its folder is {self.folder}")
         has_six = len(self.ports[0]) == len(origin.PLACES)
-        world = clients.World(
-            port, self.http, self.echo, self.nobody, has_six, self.options.inside, time.time() + self.seconds, self.options.patience, f"{self.options.seed}.{self.number}"
-        )
+        until = time.time() + self.seconds
+        # Of more clients than the processors could serve at their full pace, each asks the less often.
+        pause = self.options.clients / 100 if self.options.clients > CROWD else 0.0
+        seed = f"{self.options.seed}.{self.number}"
+        world = clients.World(port, self.http, self.echo, self.nobody, has_six, self.options.inside, until, self.options.patience, pause, seed)
         self.until = world.until
         them = context.Process(target=clients.run, args=(world, self.options.clients, "clients.log"), daemon=True)
         them.start()
@@ -316,6 +321,7 @@ class Round:
         self.counts.update({f"log: {name}": count for name, count in logged.counts.items()})
         self.counts.update({f"journal: {name}": count for name, count in oracle.counts.items()})
         self.counts["entries verified"] += oracle.entries
+        self.most["connections open at once"] = oracle.most_open
         self.most["percent of its bound that a bucket gave"] = int(100 * judge.fullest)
         if os.path.exists("clients.log.counts"):
             with open("clients.log.counts") as file:
@@ -359,6 +365,7 @@ def main() -> int:
         resolver.enter(sys.argv[0], sys.argv[1:])
         print("chaos: look-ups of names are left out, since this machine gives no namespaces", flush=True)
     length = options.round or max(10, min(300, options.seconds // 2))
+    raise_limit()
     top = tempfile.mkdtemp(prefix="chaos.")
     os.chdir(top)
     if options.inside:
