@@ -508,8 +508,8 @@ class Client:
     async def byte_by_byte(self) -> None:
         sent = self.begin(self.request())
         head = sent.head()
-        # One with a very long field comes in larger pieces, so that it is whole before others may take its worker.
-        step = 1 + len(head) // 1000
+        # A long one comes in larger pieces, so that it is whole before others may take its worker.
+        step = 1 + len(head) // 200
         for at in range(0, len(head), step):
             await self.put(head[at : at + step])
             await asyncio.sleep(0.0005)

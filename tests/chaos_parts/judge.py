@@ -85,9 +85,9 @@ class Judge:
             is_excused = rewriter.program.startswith("./no-such") or rewriter.queue < self.world.clients
             if not is_excused and sent.end and not self.program.ended_between(verdict.taken / 1000 - 1, sent.ended):
                 self.odd(f"{name}: the program that rewrites was not asked, though no process of it ended and its queue had room", sent.number)
-            self.counts["rewriter not asked"] += 1
+            self.counts["rewriter: not asked"] += 1
             return [stays]
-        self.counts[f"rewriter {'heard' if asked.is_heard else 'not heard'}"] += 1
+        self.counts[f"rewriter: {'heard' if asked.is_heard else 'not heard'}"] += 1
         if not asked.is_heard:
             return [stays]
         told = fate_of(sent.target, self.world.http, self.world.nobody)
@@ -111,7 +111,6 @@ class Judge:
                 self.odd(f"the program that rewrites was asked about {about}, and no such request was allowed or left", identity)
             elif identity and one.at * 1000 < self.oracle.verdicts[identity].taken - 2:
                 self.odd(f"the program that rewrites was asked at {one.at}, before it was allowed", identity)
-        self.counts["questions to the program that rewrites"] += len(self.program.asked)
         self.counts.update(self.program.counts)
         for what in self.program.wrong:
             self.odd(what, "")
@@ -198,9 +197,9 @@ class Judge:
         self.fates[sent.number] = [fate for fate, _ in fits]
         fate, wanted = fits[0]
         if fate.location:
-            self.counts["sent elsewhere"] += 1
+            self.counts["rewriter: clients sent elsewhere"] += 1
         elif fate.target != sent.target:
-            self.counts["went on with another target"] += 1
+            self.counts["rewriter: other targets"] += 1
         self.counts[f"compared {sent.front[9:12] or 'no reply'}"] += 1
         if wanted.from_origin:
             self.from_origin.add(sent.number)

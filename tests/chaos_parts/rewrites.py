@@ -141,12 +141,14 @@ class Program:
         assert isinstance(at, float) and isinstance(pid, int)
         open_[channel] = Asked(words[0], words[1][:-2], words[3], at, pid, channel)
         self.asked.append(open_[channel])
+        found = MARK.search(words[0])
+        self.counts["rewriter: " + (found[1] if found else "plain")] += 1
 
     def hear(self, text: str, open_: dict[str, Asked], answered: list[Asked]) -> bool:
         """Takes a line that a process wrote. Whether the process goes on behind it."""
         channel, _, rest = text.partition(" ") if self.concurrency else ("-", "", text)
         one = open_.pop(channel, None) if rest.startswith(("OK", "ERR", "BH")) and len(text) <= 65_536 else None
-        self.counts["lines of the program that rewrites"] += 1
+        self.counts["rewriter: lines"] += 1
         if one is None:
             return False
         one.is_heard = True

@@ -18,12 +18,11 @@ from pathlib import Path
 
 from thousand_parts.proxies import raise_limit
 
-from . import clients, configs, origin, resolver
+from . import clients, configs, origin, resolver, rewrites
 from .judge import Judge, World, lines_of
 from .logged import AccessJudge
 from .model import Configuration, Rewriter
 from .oracle import Oracle, Order
-from .rewrites import Program
 from .server import Server, signal_one, slurp, until
 
 HERE = Path(__file__).resolve().parent
@@ -47,6 +46,22 @@ def free_port() -> int:
                 return port
             except OSError:
                 continue
+
+
+# What a run of a minute has to have seen of each part, so that none is passed over in silence; the second ones where names are looked up.
+SEEN = [
+    "fields of a request that did not go on", "fields of a reply that did not go on", "requests at origins", "compared 200", "compared 403", "compared 502",
+    "buckets", "buckets of tags", "quiet moments", "reconfigured", "kept old", "helpers killed", "helpers stopped",
+    *(f"rewriter: {does}" for does in (*rewrites.ANSWERS, *rewrites.LOSSES, "plain", "heard", "not heard", "clients sent elsewhere", "other targets")),
+    *(f"journal: {name}" for name in ("answers by a table", "answers by a tag", "requests with a tag", "took kept", "startfail", "line bad", "died")),
+    *(f"log: {name}" for name in ("lines of requests", "lines without a request", "lines whose bytes were compared")),
+    *(f"log: code {code}" for code in ("NONE", "TCP_DENIED", "TCP_MISS", "TCP_MISS_ABORTED", "TCP_REDIRECT", "TCP_TUNNEL", "TCP_TUNNEL_ABORTED")),
+    *(f"log: cause {cause}" for cause in ("client_gone", "cut_off", "not_http", "other", "refused")),
+]
+NAMES_SEEN = [
+    *(f"journal: look-ups that say {word}" for word in ("OK", "ERR", "BH")), "names that were dialled where a rule had looked",
+    "log: cause name_not_found", "log: cause lookup_failed",
+]
 
 
 class Round:
@@ -128,7 +143,7 @@ class Round:
         has_six = len(self.ports[0]) == len(origin.PLACES)
         until = time.time() + self.seconds
         # Of more clients than the processors could serve at their full pace, each asks the less often.
-        pause = self.options.clients / 100 if self.options.clients > CROWD else 0.0
+        pause = min(8.0, self.options.clients / 125) if self.options.clients > CROWD else 0.0
         seed = f"{self.options.seed}.{self.number}"
         world = clients.World(port, self.http, self.echo, self.nobody, has_six, self.options.inside, until, self.options.patience, pause, seed)
         self.until = world.until
@@ -423,7 +438,7 @@ def main() -> int:
         if wrong > 1000:
             break
     signal.alarm(0)
-    for title, names in (("journal: ", "the journal"), ("clients: ", "clients"), ("log: ", "the access log")):
+    for title, names in (("journal: ", "the journal"), ("clients: ", "clients"), ("log: ", "the access log"), ("rewriter: ", "the program that rewrites")):
         told = ", ".join(f"{name[len(title):]} {count}" for name, count in sorted(counts.items()) if name.startswith(title))
         print(f"chaos: {names}: {told}")
     print("chaos: " + ", ".join(f"{name} {count}" for name, count in sorted(counts.items()) if ": " not in name))
@@ -433,12 +448,15 @@ def main() -> int:
         f"{counts['clients: connections']} connections, {counts['clients: requests']} requests, {counts['entries verified']} entries verified, "
         f"{wrong} contradictions"
     )
+    missing = [name for name in SEEN + (NAMES_SEEN if options.inside else []) if options.seconds >= 60 and not counts[name]]
+    if missing:
+        print(f"chaos: in all this time there was none of: {', '.join(missing)}")
     if wrong:
         print(f"chaos: what the rounds left stands in {top}")
         return 1
     os.chdir("/")
     shutil.rmtree(top)
-    return 0
+    return 1 if missing else 0
 
 
 if __name__ == "__main__":
