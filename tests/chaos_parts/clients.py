@@ -32,7 +32,7 @@ class World:
     has_names: bool
     until: float
     patience: float
-    pause: float  # the seconds for which a client rests at most, between two requests of a connection or two words of a tunnel
+    pause: float  # the seconds for which a client rests at most between two requests, or between two words of a tunnel
     seed: str
 
 
@@ -47,8 +47,8 @@ class Connection:
     requests: list[Sent] = field(default_factory=list)
     rest: str = ""  # bytes behind the last reply that was waited for
     ended: float = 0.0
-    own: str = ""  # the status of the proxy's own reply to what is no request, and that one's method and target if it has any
-    line: str = ""
+    own: str = ""  # the status of the proxy's own reply to what is no request
+    line: str = ""  # the method and target of that, where it has any
     is_reset: bool = False  # whether the client ended it by a reset
     wrong: list[str] = field(default_factory=list)
 
@@ -352,10 +352,12 @@ class Client:
         for _ in range(self.random.randrange(1, 3)):
             size = self.random.choice([1000, 20_000, 60_000, 120_000])
             sent = self.request("GET", f"sized.{size}")
-            tagging = self.random.random() < 0.6
-            sent.target = f"http://{self.random.choice(['127.0.0.1', 'localhost'])}:{self.world.http}/sized.{size}/{'tag/x' if tagging else 'x'}"
-            if tagging:
-                sent.fields = [one for one in sent.fields if one[0].lower() != "x-word"] + [("X-Word", f"do-tag.{self.random.randrange(8)}")]
+            path = f"/sized.{size}/x"
+            if self.random.random() < 0.6:
+                path = f"/sized.{size}/tag/x"
+                words = [one for one in sent.fields if one[0].lower() != "x-word"]
+                sent.fields = [*words, ("X-Word", f"do-tag.{self.random.randrange(8)}")]
+            sent.target = f"http://{self.random.choice(['127.0.0.1', 'localhost'])}:{self.world.http}{path}"
             if not await self.ask(sent):
                 return await self.see_end()
         await asyncio.sleep(self.random.random() * 0.5)

@@ -99,7 +99,20 @@ RULES = [
 # Rules of fields: which fields, and what may stand behind the name. No list there asks a helper.
 REQUEST_FIELDS = ["X-Word", "x-word", "Via", "X-Forwarded-For", "Accept", "Content-Length", "Host", "Connection", "All"]
 REPLY_FIELDS = ["X-Kept", "x-kept", "Content-Type", "Via", "X-Hint", "ETag", "Content-Length", "Transfer-Encoding", "Connection", "All"]
-FIELD_RULES = ["deny all", "deny odd", "allow odd", "deny posts", "deny !byname", "allow h1", "deny h2 !odd", "deny hours", "deny few", "allow !strange", "deny refused", "deny CONNECT"]
+FIELD_RULES = [
+    "deny all",
+    "deny odd",
+    "allow odd",
+    "deny posts",
+    "deny !byname",
+    "allow h1",
+    "deny h2 !odd",
+    "deny hours",
+    "deny few",
+    "allow !strange",
+    "deny refused",
+    "deny CONNECT",
+]
 
 
 def field_rules(rng: random.Random) -> list[FieldRule]:
@@ -153,14 +166,18 @@ def make(rng: random.Random, echo_port: int, local_minute: int, rewriter: Rewrit
     chosen = rng.sample(RULES, rng.randrange(4, 14))
     last = ["allow all"] if kind < 0.85 else ["deny all"] if kind < 0.9 else ["deny refused"] if kind < 0.95 else []
     lookups = LookUps(rng.choice([2, 8]), rng.choice([4, 64])) if has_names and rng.random() < 0.65 else None
-    # The last term never holds: this rule asks for a tag and decides nothing.
-    words = ["deny outside", "deny refused", "deny tagging tagged !all", *(["deny inner"] if lookups and rng.random() < 0.5 else []), *chosen, *last]
+    # `!all` never holds: this rule asks for a tag and decides nothing.
+    first = ["deny outside", "deny refused", "deny tagging tagged !all"]
+    if lookups and rng.random() < 0.5:
+        first.append("deny inner")
+    words = [*first, *chosen, *last]
     if kind >= 0.985:
         words = []
     rules = [rule_of(line) for line in words]
     extra = rng.choice(["", "# the end", "cache_mem 8 MB\n", "\n\t# CR LF follow\r\n"])
     with_pools = pools(rng) if rng.random() < 0.7 else []
-    return Configuration(lists(rng, echo_port, local_minute), classes(rng), rules, with_pools, rng.choice([0, 50, 100]), field_rules(rng), rewriter, lookups, extra)
+    all_lists, all_classes, level, fields = lists(rng, echo_port, local_minute), classes(rng), rng.choice([0, 50, 100]), field_rules(rng)
+    return Configuration(all_lists, all_classes, rules, with_pools, level, fields, rewriter, lookups, extra)
 
 
 # What makes a configuration faulty as its last line, and the kind by the table of docs/CONFIGURATION.md.

@@ -54,8 +54,9 @@ def main() -> None:
         elif do == b"bh":
             put(front + b"BH" + told)
         elif do == b"tag":
-            # Who names what changes with the table.
-            tag = {b"5": b'"of ERR"', b"6": b"", b"7": b'"\\"first\\"\\n" tag=second'}.get(variant, b"t%d" % ((int(variant) + int(number)) % 3))
+            # What most of them name changes with the table.
+            fixed = {b"5": b'"of ERR"', b"6": b"", b"7": b'"\\"first\\"\\n" tag=second'}
+            tag = fixed.get(variant, b"t%d" % ((int(variant) + int(number)) % 3))
             put((err if variant == b"5" else ok)[:-1] + (b" tag=" + tag if tag else b"") + b"\n")
         elif do == b"late":
             if channels:

@@ -27,6 +27,7 @@ class Wanted:
     closes: bool
     from_origin: bool
     is_loose: bool = False
+    is_given_up: bool = False  # its name is there, and its look-up failed
 
 
 @dataclass
@@ -47,6 +48,8 @@ class Judge:
         self.counts: Counter[str] = Counter()
         self.sent: dict[str, tuple[Sent, str]] = {}
         self.left: set[str] = set()  # requests that an origin left before it had written its reply, since that took too long
+        self.named = 0  # requests whose host is a name that is there, and those of them whose look-up failed
+        self.given_up = 0
         self.from_origin: set[str] = set()
         self.at_origin: dict[str, dict[str, Any]] = {}  # of a request what an origin told
         self.program: Program | None = None
@@ -59,7 +62,7 @@ class Judge:
     def odd(self, what: str, identity: str) -> None:
         self.wrong.append((what, identity))
 
-    def hear_program(self, log: str, killed: dict[int, float]) -> None:
+    def hear_program(self, log: str, killed: dict[int, list[float]]) -> None:
         """Reads what the processes of the program that rewrites told. To be called before the replies are looked at."""
         rewriter = self.oracle.configs[1].rewriter
         if rewriter is None:
@@ -84,7 +87,7 @@ class Judge:
             assert rewriter
             is_excused = rewriter.program.startswith("./no-such") or rewriter.queue < self.world.clients
             if not is_excused and sent.end and not self.program.ended_between(verdict.taken / 1000 - 1, sent.ended):
-                self.odd(f"{name}: the program that rewrites was not asked, though no process of it ended and its queue had room", sent.number)
+                self.odd(f"{name}: the rewriter was not asked, though no process of it ended and its queue had room", sent.number)
             self.counts["rewriter: not asked"] += 1
             return [stays]
         self.counts[f"rewriter: {'heard' if asked.is_heard else 'not heard'}"] += 1
@@ -196,6 +199,10 @@ class Judge:
             return
         self.fates[sent.number] = [fate for fate, _ in fits]
         fate, wanted = fits[0]
+        host = read_target(sent.method, fate.target).host
+        self.named += self.is_named(sent, verdict, fate)
+        if wanted.is_given_up and not self.oracle.said.is_torn(host, moment_of(sent, verdict)):
+            self.given_up += 1
         if fate.location:
             self.counts["rewriter: clients sent elsewhere"] += 1
         elif fate.target != sent.target:
@@ -212,10 +219,20 @@ class Judge:
     def all_wanted(self, sent: Sent, verdict: Verdict, fate: Fate) -> list[Wanted]:
         """What may come for a fate: where an origin's end may overtake its reply, a 502 too."""
         wanted = self.wanted(sent, verdict, fate)
-        if not wanted.is_loose:
-            return [wanted]
-        front = CONTINUE if wanted.bytes_.startswith(CONTINUE) else b""
-        return [wanted, Wanted(front + own("502 Bad Gateway", "bad gateway", False, sent.method), True, False)]
+        unreached = own("502 Bad Gateway", "bad gateway", False, sent.method)
+        out = [wanted]
+        if wanted.is_loose:
+            front = CONTINUE if wanted.bytes_.startswith(CONTINUE) else b""
+            out.append(Wanted(front + unreached, True, False))
+        if self.is_named(sent, verdict, fate) and wanted.bytes_ != unreached:
+            out.append(Wanted(unreached, True, False, is_given_up=True))
+        return out
+
+    def is_named(self, sent: Sent, verdict: Verdict, fate: Fate) -> bool:
+        """Whether the name of a host that is there is looked up for a dial."""
+        target = read_target(sent.method, fate.target)
+        is_dialled = verdict.outcome.startswith("allowed") and not fate.location and (sent.method == "CONNECT" or target.scheme == "http")
+        return is_dialled and not is_literal(target.host) and is_found(target.host)
 
     def misfit(self, sent: Sent, wanted: Wanted) -> str:
         """What of a reply is not as it has to be."""
@@ -281,7 +298,7 @@ class Judge:
 
     def addresses(self, host: str, sent: Sent, verdict: Verdict) -> set[str]:
         """Where an origin of this host may be dialled."""
-        return {host} if is_literal(host) else self.oracle.said.addresses(host, sent.ended or verdict.taken / 1000 + 60)
+        return {host} if is_literal(host) else self.oracle.said.addresses(host, moment_of(sent, verdict))
 
     def reached(self, at: str, sent: Sent, verdict: Verdict) -> None:
         """An origin was reached where its host is, and at no address that a list had to see and did not."""
@@ -350,10 +367,22 @@ class Judge:
                     return
             self.counts["quiet moments"] += 1
 
+    def names(self) -> None:
+        """Of names that are there few look-ups fail: as many as a machine that is too busy for a moment makes."""
+        failed, all_ = self.given_up + self.oracle.given_up, self.named + self.oracle.counts["look-ups that say OK"]
+        self.counts["look-ups that failed of names that are there"] += failed
+        if failed > 2 + all_ // 100:
+            self.odd(f"of {all_} look-ups of names that are there {failed} failed", "")
+
     def connections(self, opened: Counter[tuple[str, int]], began: Counter[tuple[str, int]]) -> None:
         for (address, port), count in opened.items():
             if count > began[address, port]:
                 self.odd(f"a connection from {address} {port} was opened {count} times, and there were {began[address, port]}", "")
+
+
+def moment_of(sent: Sent, verdict: Verdict) -> float:
+    """A moment by which a request's origin was dialled."""
+    return sent.ended or verdict.taken / 1000 + 60
 
 
 def is_found(host: str) -> bool:

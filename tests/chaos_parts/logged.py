@@ -97,7 +97,8 @@ class AccessJudge:
             else:
                 self.request(line, session, self.of_check[check])
         if len(lines) > len(wanted):
-            self.odd(f"of this worker there are {len(lines)} lines, and {len(wanted)} requests and connections without one", lines[len(wanted)])
+            counts = f"{len(lines)} lines, and {len(wanted)} requests and connections without one"
+            self.odd(f"of this worker there are {counts}", lines[len(wanted)])
         elif len(wanted) > len(lines):
             session, check = wanted[len(lines)]
             self.odd(f"there is no line of check {check} of {session.address} {session.port}", None, self.of_check.get(check, ""))
@@ -108,7 +109,8 @@ class AccessJudge:
         self.counts["lines without a request"] += 1
         if code.removesuffix("_ABORTED") != "NONE" or code.endswith("_ABORTED") != (line.cause == "client_gone"):
             self.odd("its code is wrong", line)
-        if line.parts["way"] != "HIER_NONE/-" or line.parts["type"] != ("-" if status == "000" else "text/plain") or line.number("rule") >= 0:
+        kind = "-" if status == "000" else "text/plain"
+        if line.parts["way"] != "HIER_NONE/-" or line.parts["type"] != kind or line.number("rule") >= 0:
             self.odd("it has what belongs to a request", line)
         if line.cause not in ("", "client_gone") or line.number("up") >= 0:
             self.odd("it has no such cause, and no origin", line)
@@ -120,7 +122,7 @@ class AccessJudge:
             self.odd("nothing was sent, and bytes are counted", line)
 
     def may_be_silent(self, line: Line, status: str, record: dict[str, Any]) -> bool:
-        """Whether the line may be that of this connection: on one where a head was sent and refused it may have the head's method and target."""
+        """Whether the line may be that of this connection. Where a head was refused it may have that one's method and target."""
         requests = {f"NONE {ERRORS.get(status, 'error:transaction-end-before-headers')}", record["line"]}
         is_answered = status == (record["own"] or "000") or status == "000" and line.cause == "client_gone"
         return line.parts["request"] in requests and is_answered
@@ -168,7 +170,7 @@ class AccessJudge:
         """What of a line contradicts, if this became of its request."""
         code, status = line.parts["code"].split("/")
         code = code.removesuffix("_ABORTED")
-        wanted, statuses, causes, way, kind = self.wanted(sent, verdict, fate)
+        wanted, statuses, causes, ways, kind = self.wanted(line.parts["way"], sent, verdict, fate)
         got = status_of(sent)
         is_whole = sent.end == "whole" or sent.end == "cut" and "" in causes and sent.got == line.number("bytes")
         # A client that has all may have reset its link before the line was written.
@@ -180,8 +182,8 @@ class AccessJudge:
             return f"the client got {got or statuses}"
         if line.cause not in (causes | {"client_gone"} if may_be_gone else causes):
             return f"its cause is {causes}, and the client's reply ended by {sent.end or 'nothing that it waited for'}"
-        if line.parts["way"] not in way and not (line.cause == "client_gone" and line.parts["way"] == "HIER_NONE/-"):
-            return f"the origin is {way}"
+        if line.parts["way"] not in ways and not (line.cause == "client_gone" and line.parts["way"] == "HIER_NONE/-"):
+            return f"the origin is {ways}"
         if line.parts["type"] != ("-" if status == "000" else kind(status)):
             return "its type is another"
         is_dialled = wanted in ("TCP_MISS", "TCP_TUNNEL")
@@ -189,7 +191,7 @@ class AccessJudge:
             return "it has an origin's bytes, or has none"
         return self.bytes_(line, sent, verdict, fate) if line.cause != "client_gone" else ""
 
-    def wanted(self, sent: Sent, verdict: Verdict, fate: Fate) -> tuple[str, set[str], set[str], set[str], Any]:
+    def wanted(self, way: str, sent: Sent, verdict: Verdict, fate: Fate) -> tuple[str, set[str], set[str], set[str], Any]:
         """Code, statuses, causes, ways and the type of each status, of which one has to be there."""
         nowhere, own, others = {"HIER_NONE/-"}, lambda _: "text/plain", lambda _: "-"
         if not verdict.outcome.startswith("allowed"):
@@ -207,22 +209,24 @@ class AccessJudge:
         if not is_found(target.host):
             word = target.host.split("-")[0]
             return code, {"502"}, {"lookup_failed" if word in ("broken", "dead") else "name_not_found"}, nowhere, own
+        if way == "HIER_NONE/-" and self.judge.is_named(sent, verdict, fate):
+            return code, {"502"}, {"lookup_failed", "name_not_found"}, nowhere, own
         record = self.judge.at_origin.get(sent.number)
         addresses = {record["at"]} if record else self.judge.addresses(target.host, sent, verdict)
-        way = {f"HIER_DIRECT/{address}" for address in addresses}
+        ways = {f"HIER_DIRECT/{address}" for address in addresses}
         if target.port == self.judge.world.nobody:
-            return code, {"502"}, {"refused"}, way, own
+            return code, {"502"}, {"refused"}, ways, own
         if sent.method == "CONNECT":
-            return code, {"200"}, {""}, way, by_status
+            return code, {"200"}, {""}, ways, by_status
         if not sent.whole:
-            return code, set(), {"client_gone", "other"}, way, by_status
+            return code, set(), {"client_gone", "other"}, ways, by_status
         plan = plan_of(target.path, sent.data())
         word = target.path.split("/")[1] if target.path.startswith("/") else ""
         is_head = sent.method == "HEAD" and (plan.works or plan.of_head is not None)
         if plan.is_loose or sent.number in self.judge.left:
-            return code, {plan.status[:3], "502"}, {"", "cut_off"}, way, by_status
+            return code, {plan.status[:3], "502"}, {"", "cut_off"}, ways, by_status
         causes = {""} if is_head else CAUSES.get(word, {""})
-        return code, {plan.status[:3] if plan.works or is_head else "502"}, causes, way, by_status
+        return code, {plan.status[:3] if plan.works or is_head else "502"}, causes, ways, by_status
 
     def bytes_(self, line: Line, sent: Sent, verdict: Verdict, fate: Fate) -> str:
         """What of its counts contradicts. What a client did not wait for is counted nowhere else."""

@@ -25,7 +25,8 @@ def listeners(count: int) -> list[list[socket.socket]]:
         port = 0
         for place in PLACES:
             try:
-                sockets.append(socket.create_server((place, port), family=socket.AF_INET6 if ":" in place else socket.AF_INET, backlog=1024))
+                family = socket.AF_INET6 if ":" in place else socket.AF_INET
+                sockets.append(socket.create_server((place, port), family=family, backlog=1024))
                 port = sockets[-1].getsockname()[1]
             except OSError:
                 if ":" not in place:

@@ -1,7 +1,7 @@
 """A name server of the test's own, at 127.0.0.1 in a namespace, and what may be known by its answers.
 
-What it says of a name follows from the name's first word, `WORD-N.test`: some names have other addresses from the second answer on, and for some it
-lies, is slow, or says nothing. In the file `names.log` it tells each answer before it gives it.
+What it says of a name follows from the name's first word, `WORD-N.test`: some names have other addresses from the second answer on, and for
+some it lies, is slow, or says nothing. It writes each answer into the file `names.log` before it gives it.
 """
 
 import json
@@ -36,7 +36,7 @@ HAS: dict[str, tuple[tuple[str, ...], ...]] = {
 # Why a name has none, as a reply says it: there is no such name, the server has failed, there are no records. `dead` gets no reply.
 FAILS = {"none": 3, "broken": 2, "empty": 0, "dead": -1}
 WORDS = ("one", "inner", "both", "six", "flip", "flop", "part", "liar", "alias", "none", "broken", "empty")
-KEPT = 200.0  # seconds for which an answer may count, for a rule and then for a dial, at the most
+KEPT = 300.0  # seconds for which an answer may count, for rules that ask one after the other and then for a dial, at the most
 SLACK = 0.1
 STATIC = {"localhost": ("127.0.0.1", "::1")}
 LIE = "127.1.0.9"
@@ -121,23 +121,30 @@ class Answers:
     def shown(self, name: str, values: list[str], moment: float) -> set[str]:
         """What a list of type `dst` may answer for a name: `OK`, `ERR`, or `BH` where the look-up failed."""
         said = self.before(name, moment)
-        may = {"BH"} if any(not has for has in said) else set()
-        full = [has for has in said if has]
+        full = {has for has in said if has}
+        common = {one & other for one in full for other in full}
+        may = {"BH"} if len(full) < len(set(said)) or frozenset() in common else set()
         # Where answers differ, a rule is shown one of them, or what they have in common with an earlier one.
-        for has in {one & other for one in full for other in full}:
+        for has in common:
             may.add("OK" if any(in_range(value, address) for value in values for address in has) else "ERR")
         return may
+
+    def is_torn(self, name: str, moment: float) -> bool:
+        """Whether answers that may count have no address in common."""
+        full = {has for has in self.before(name, moment) if has}
+        return any(not one & other for one in full for other in full)
 
     def addresses(self, name: str, moment: float) -> set[str]:
         """Where a name may be dialled."""
         return {address for has in self.before(name, moment) for address in has}
 
 
-def enter(script: str, words: list[str]) -> bool:
-    """Runs the test anew in namespaces of its own, where this machine gives them; it does not come back then."""
+def enter(script: str, words: list[str]) -> None:
+    """Runs the test anew in namespaces of its own, where this machine gives them. It returns where it does not."""
     spaces = ["unshare", "--user", "--map-root-user", "--net", "--mount"] if os.getuid() else ["unshare", "--net", "--mount"]
-    if shutil.which("unshare") is None or subprocess.run([*spaces, "mount", "--bind", "/etc/hosts", "/etc/hosts"], capture_output=True).returncode:
-        return False
+    probe = [*spaces, "mount", "--bind", "/etc/hosts", "/etc/hosts"]
+    if shutil.which("unshare") is None or subprocess.run(probe, capture_output=True).returncode:
+        return
     sys.stdout.flush()
     os.execvp(spaces[0], [*spaces, sys.executable, script, "--inside", *words])
 

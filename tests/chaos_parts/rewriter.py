@@ -1,7 +1,7 @@
 """The program that rewrites, for tests/chaos.py: rewriter.py CONCURRENCY HTTP NOBODY
 
-What it does with a question is said by words in the target, `rw-DOES.SAYS`: by the first it answers, or does not, and the second is its answer. In
-the file `rewriter.log` it tells each question that it has, and what it writes before it does.
+What it does with a question is said by words in the target, `rw-DOES.SAYS`: the first says how it answers, or that it does not, and the
+second is its answer. It writes each question into the file `rewriter.log`, and each answer before it gives it.
 """
 
 import json
@@ -36,6 +36,7 @@ def main() -> None:
         tell(ends=True)
         sys.exit()
 
+    tell(begins=True)
     while True:
         while b"\n" not in held:
             if turned and not select.select([0], [], [], 0.03)[0]:

@@ -3,7 +3,7 @@
 import json
 import re
 from bisect import bisect_left
-from collections import Counter, defaultdict
+from collections import Counter
 from dataclasses import dataclass, field
 
 MARK = re.compile(r"/rw-([a-z]+)\.([a-z]+)/i([0-9]+\.[0-9]+)(?![0-9])")
@@ -93,6 +93,16 @@ class Asked:
 
 
 @dataclass
+class Life:
+    """A process of the program: the questions that it has, by their channels, and which ones its last line in the file answers."""
+
+    began: float
+    open_: dict[str, Asked] = field(default_factory=dict)
+    answered: list[Asked] = field(default_factory=list)
+    is_over: bool = False
+
+
+@dataclass
 class Program:
     """What the processes of the program told of themselves: a line when one has a question, and one before it writes."""
 
@@ -102,32 +112,36 @@ class Program:
     wrong: list[str] = field(default_factory=list)
     counts: Counter[str] = field(default_factory=Counter)
 
-    def read(self, log: str, killed: dict[int, float]) -> None:
+    def read(self, log: str, killed: dict[int, list[float]]) -> None:
         """Plays each process's lines: which questions its replies answer, by docs/FORMATS.md."""
-        open_: defaultdict[int, dict[str, Asked]] = defaultdict(dict)
-        over: set[int] = set()
-        last: dict[int, tuple[float, list[Asked]]] = {}
+        lives: dict[int, Life] = {}
         with open(log) as file:
             for line in file:
                 told = json.loads(line)
                 pid, at = told["pid"], told["at"]
-                answered: list[Asked] = []
+                if told.get("begins"):
+                    # The system gives a number again once its process has ended.
+                    self.doubt(lives.get(pid), killed.get(pid, []))
+                    lives[pid] = Life(at)
+                life = lives[pid]
+                life.answered = []
                 if "asked" in told:
-                    self.ask(told, open_[pid])
+                    self.ask(told, life.open_)
                 for text in told.get("wrote", []):
-                    if pid not in over and not self.hear(text, open_[pid], answered):
-                        over.add(pid)
+                    if not life.is_over and not self.hear(text, life):
+                        life.is_over = True
                         self.ends.append(at)
                 if told.get("ends"):
                     self.ends.append(at)
-                last[pid] = at, answered
-        self.ends += killed.values()
-        for pid, (at, answered) in last.items():
-            if pid in killed:
-                # It may have been killed between its line in this file and what it then wrote.
-                for one in answered:
-                    one.is_sure = False
-        self.ends.sort()
+        for pid, life in lives.items():
+            self.doubt(life, killed.get(pid, []))
+        self.ends = sorted([*self.ends, *(at for all_ in killed.values() for at in all_)])
+
+    def doubt(self, life: Life | None, killed: list[float]) -> None:
+        """A process may have been killed between its last line in the file and what it then wrote."""
+        if life and any(at >= life.began for at in killed):
+            for one in life.answered:
+                one.is_sure = False
 
     def ask(self, told: dict[str, object], open_: dict[str, Asked]) -> None:
         words = str(told["asked"]).split(" ")
@@ -144,15 +158,15 @@ class Program:
         found = MARK.search(words[0])
         self.counts["rewriter: " + (found[1] if found else "plain")] += 1
 
-    def hear(self, text: str, open_: dict[str, Asked], answered: list[Asked]) -> bool:
+    def hear(self, text: str, life: Life) -> bool:
         """Takes a line that a process wrote. Whether the process goes on behind it."""
         channel, _, rest = text.partition(" ") if self.concurrency else ("-", "", text)
-        one = open_.pop(channel, None) if rest.startswith(("OK", "ERR", "BH")) and len(text) <= 65_536 else None
+        one = life.open_.pop(channel, None) if rest.startswith(("OK", "ERR", "BH")) and len(text) <= 65_536 else None
         self.counts["rewriter: lines"] += 1
         if one is None:
             return False
         one.is_heard = True
-        answered.append(one)
+        life.answered.append(one)
         return True
 
     def ended_between(self, first: float, last: float) -> bool:

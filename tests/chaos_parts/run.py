@@ -13,7 +13,7 @@ import subprocess
 import sys
 import tempfile
 import time
-from collections import Counter
+from collections import Counter, defaultdict
 from pathlib import Path
 
 from thousand_parts.proxies import raise_limit
@@ -48,19 +48,23 @@ def free_port() -> int:
                 continue
 
 
-# What a run of a minute has to have seen of each part, so that none is passed over in silence; the second ones where names are looked up.
+# What a run of a minute has to have seen, so that no part is passed over in silence; the second ones where names are looked up.
 SEEN = [
-    "fields of a request that did not go on", "fields of a reply that did not go on", "requests at origins", "compared 200", "compared 403", "compared 502",
-    "buckets", "buckets of tags", "quiet moments", "reconfigured", "kept old", "helpers killed", "helpers stopped",
-    *(f"rewriter: {does}" for does in (*rewrites.ANSWERS, *rewrites.LOSSES, "plain", "heard", "not heard", "clients sent elsewhere", "other targets")),
-    *(f"journal: {name}" for name in ("answers by a table", "answers by a tag", "requests with a tag", "took kept", "startfail", "line bad", "died")),
+    *("requests at origins", "compared 200", "compared 403", "compared 502", "reconfigured", "kept old", "helpers killed", "helpers stopped"),
+    *("fields of a request that did not go on", "fields of a reply that did not go on", "buckets", "buckets of tags", "quiet moments"),
+    *(f"rewriter: {does}" for does in (*rewrites.ANSWERS, *rewrites.LOSSES)),
+    *(f"rewriter: {name}" for name in ("plain", "heard", "not heard", "clients sent elsewhere", "other targets")),
+    *(f"journal: {name}" for name in ("answers by a table", "answers by a tag", "requests with a tag", "took kept")),
+    *(f"journal: {name}" for name in ("startfail", "line bad", "died")),
     *(f"log: {name}" for name in ("lines of requests", "lines without a request", "lines whose bytes were compared")),
-    *(f"log: code {code}" for code in ("NONE", "TCP_DENIED", "TCP_MISS", "TCP_MISS_ABORTED", "TCP_REDIRECT", "TCP_TUNNEL", "TCP_TUNNEL_ABORTED")),
+    *(f"log: code {code}" for code in ("NONE", "TCP_DENIED", "TCP_MISS", "TCP_REDIRECT", "TCP_TUNNEL")),
+    *(f"log: code {code}_ABORTED" for code in ("TCP_MISS", "TCP_TUNNEL")),
     *(f"log: cause {cause}" for cause in ("client_gone", "cut_off", "not_http", "other", "refused")),
 ]
 NAMES_SEEN = [
-    *(f"journal: look-ups that say {word}" for word in ("OK", "ERR", "BH")), "names that were dialled where a rule had looked",
-    "log: cause name_not_found", "log: cause lookup_failed",
+    *(f"journal: look-ups that say {word}" for word in ("OK", "ERR", "BH")),
+    "names that were dialled where a rule had looked",
+    *(f"log: cause {cause}" for cause in ("name_not_found", "lookup_failed")),
 ]
 
 
@@ -78,7 +82,7 @@ class Round:
         self.tables: list[tuple[float, float, set[bytes]]] = []
         self.stopped: list[int] = []
         self.logs: list[str] = []  # the files of the access log that were renamed
-        self.killed: dict[int, float] = {}
+        self.killed: defaultdict[int, list[float]] = defaultdict(list)
         self.slowest = 0.0
         self.offset = self.random.randrange(-840, 841)
         self.others: list[multiprocessing.process.BaseProcess] = []
@@ -136,16 +140,26 @@ class Round:
         port = free_port()
         words = ["squid.conf", "--port", str(port), "--workers", str(self.options.workers), "--utc-offset", str(self.offset)]
         self.started = time.time()
-        self.server = Server(self.options.program, words, "journal", more={"ACLPROXY_ACCESS_LOG": "access.log", "ACLPROXY_MESSAGES": "messages"})
+        more = {"ACLPROXY_ACCESS_LOG": "access.log", "ACLPROXY_MESSAGES": "messages"}
+        self.server = Server(self.options.program, words, "journal", more=more)
         said = self.server.hear(self.options.patience)
         if said != f"listening {port}":
             raise SystemExit(f"chaos: the server says {said}; its folder is {self.folder}")
         has_six = len(self.ports[0]) == len(origin.PLACES)
-        until = time.time() + self.seconds
-        # Of more clients than the processors could serve at their full pace, each asks the less often.
+        # A link that rests for ten seconds may have to give way to a client that waits.
         pause = min(8.0, self.options.clients / 125) if self.options.clients > CROWD else 0.0
-        seed = f"{self.options.seed}.{self.number}"
-        world = clients.World(port, self.http, self.echo, self.nobody, has_six, self.options.inside, until, self.options.patience, pause, seed)
+        world = clients.World(
+            port,
+            self.http,
+            self.echo,
+            self.nobody,
+            has_six,
+            self.options.inside,
+            time.time() + self.seconds,
+            self.options.patience,
+            pause,
+            f"{self.options.seed}.{self.number}",
+        )
         self.until = world.until
         them = context.Process(target=clients.run, args=(world, self.options.clients, "clients.log"), daemon=True)
         them.start()
@@ -203,7 +217,7 @@ class Round:
         if live:
             pid = self.random.choice(live)
             if self.random.random() < 0.6:
-                self.killed[pid] = time.time()
+                self.killed[pid].append(time.time())
                 self.counts["helpers killed"] += signal_one(pid, signal.SIGKILL, self.server.pid)
             elif signal_one(pid, signal.SIGSTOP, self.server.pid):
                 self.counts["helpers stopped"] += 1
@@ -323,6 +337,7 @@ class Round:
         logged.look([*self.logs, "access.log"], slurp("messages"))
         judge.connections(oracle.opened, began)
         judge.pools()
+        judge.names()
         for identity in [*oracle.verdicts, *oracle.unfinished]:
             if identity not in judge.sent:
                 judge.odd("it was asked, and no client sent it whole", identity)
@@ -438,7 +453,12 @@ def main() -> int:
         if wrong > 1000:
             break
     signal.alarm(0)
-    for title, names in (("journal: ", "the journal"), ("clients: ", "clients"), ("log: ", "the access log"), ("rewriter: ", "the program that rewrites")):
+    for title, names in (
+        ("journal: ", "the journal"),
+        ("clients: ", "clients"),
+        ("log: ", "the access log"),
+        ("rewriter: ", "the program that rewrites"),
+    ):
         told = ", ".join(f"{name[len(title):]} {count}" for name, count in sorted(counts.items()) if name.startswith(title))
         print(f"chaos: {names}: {told}")
     print("chaos: " + ", ".join(f"{name} {count}" for name, count in sorted(counts.items()) if ": " not in name))
@@ -448,7 +468,8 @@ def main() -> int:
         f"{counts['clients: connections']} connections, {counts['clients: requests']} requests, {counts['entries verified']} entries verified, "
         f"{wrong} contradictions"
     )
-    missing = [name for name in SEEN + (NAMES_SEEN if options.inside else []) if options.seconds >= 60 and not counts[name]]
+    wanted = SEEN + (NAMES_SEEN if options.inside else []) if options.seconds >= 60 else []
+    missing = [name for name in wanted if not counts[name]]
     if missing:
         print(f"chaos: in all this time there was none of: {', '.join(missing)}")
     if wrong:
