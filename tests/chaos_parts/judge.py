@@ -201,14 +201,14 @@ class Judge:
         fate, wanted = fits[0]
         host = read_target(sent.method, fate.target).host
         self.named += self.is_named(sent, verdict, fate)
-        if wanted.is_given_up and not self.oracle.said.is_torn(host, moment_of(sent, verdict)):
+        if wanted.is_given_up and not self.oracle.said.may_fail(host, moment_of(sent, verdict)):
             self.given_up += 1
         if fate.location:
             self.counts["rewriter: clients sent elsewhere"] += 1
         elif fate.target != sent.target:
             self.counts["rewriter: other targets"] += 1
         self.counts[f"compared {sent.front[9:12] or 'no reply'}"] += 1
-        if wanted.from_origin:
+        if all(one.from_origin for _, one in fits):
             self.from_origin.add(sent.number)
             if verdict.pool is not None and not sent.expects:
                 config = self.oracle.configs[verdict.epoch]
@@ -371,6 +371,7 @@ class Judge:
         """Of names that are there few look-ups fail: as many as a machine that is too busy for a moment makes."""
         failed, all_ = self.given_up + self.oracle.given_up, self.named + self.oracle.counts["look-ups that say OK"]
         self.counts["look-ups that failed of names that are there"] += failed
+        self.counts["names that had another answer the second time"] += self.oracle.said.changed()
         if failed > 2 + all_ // 100:
             self.odd(f"of {all_} look-ups of names that are there {failed} failed", "")
 

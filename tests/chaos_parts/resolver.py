@@ -20,7 +20,7 @@ from names import Names, raise_loopback
 
 from .model import in_range
 
-# The addresses of a name by the first word: at its first look-up, and later. At each of these an origin listens.
+# The addresses of a name by the first word: at its first look-up, and later. At each of these an origin listens. Without one it is no name.
 HAS: dict[str, tuple[tuple[str, ...], ...]] = {
     "one": (("127.0.0.1",),),
     "inner": (("127.1.0.9",),),
@@ -29,13 +29,14 @@ HAS: dict[str, tuple[tuple[str, ...], ...]] = {
     "flip": (("127.0.0.1",), ("127.1.0.9",)),
     "flop": (("127.1.0.9",), ("127.0.0.1",)),
     "part": (("127.0.0.1", "127.0.0.9"), ("127.0.0.9", "127.1.0.9")),
+    "late": ((), ("127.0.0.1",)),
     "slow": (("127.0.0.1",),),
     "liar": (("127.0.0.1",),),
     "alias": (("127.0.0.9",),),
 }
 # Why a name has none, as a reply says it: there is no such name, the server has failed, there are no records. `dead` gets no reply.
 FAILS = {"none": 3, "broken": 2, "empty": 0, "dead": -1}
-WORDS = ("one", "inner", "both", "six", "flip", "flop", "part", "liar", "alias", "none", "broken", "empty")
+WORDS = ("one", "inner", "both", "six", "flip", "flop", "part", "late", "liar", "alias", "none", "broken", "empty")
 KEPT = 300.0  # seconds for which an answer may count, for rules that ask one after the other and then for a dial, at the most
 SLACK = 0.1
 STATIC = {"localhost": ("127.0.0.1", "::1")}
@@ -86,7 +87,7 @@ class Resolver(Names):
             owner = alias
             count += 1
         records += b"".join(self.record(owner, kind, address) for address in found)
-        self.send(number, 0, question, records, count, peer)
+        self.send(number, 0 if has else 3, question, records, count, peer)
 
     def record(self, owner: bytes, kind: int, data: bytes) -> bytes:
         return owner + struct.pack(">HHIH", kind, 1, 0, len(data)) + data
@@ -121,18 +122,21 @@ class Answers:
     def shown(self, name: str, values: list[str], moment: float) -> set[str]:
         """What a list of type `dst` may answer for a name: `OK`, `ERR`, or `BH` where the look-up failed."""
         said = self.before(name, moment)
-        full = {has for has in said if has}
-        common = {one & other for one in full for other in full}
-        may = {"BH"} if len(full) < len(set(said)) or frozenset() in common else set()
+        may = {"BH"} if self.may_fail(name, moment) else set()
         # Where answers differ, a rule is shown one of them, or what they have in common with an earlier one.
-        for has in common:
+        full = {has for has in said if has}
+        for has in {one & other for one in full for other in full}:
             may.add("OK" if any(in_range(value, address) for value in values for address in has) else "ERR")
         return may
 
-    def is_torn(self, name: str, moment: float) -> bool:
-        """Whether answers that may count have no address in common."""
-        full = {has for has in self.before(name, moment) if has}
-        return any(not one & other for one in full for other in full)
+    def may_fail(self, name: str, moment: float) -> bool:
+        """Whether an answer that may count has no address, or two have none in common."""
+        said = set(self.before(name, moment))
+        return any(not one & other for one in said for other in said)
+
+    def changed(self) -> int:
+        """How many names had another answer the second time."""
+        return sum(len({has for _, has in all_}) > 1 for all_ in self.of.values())
 
     def addresses(self, name: str, moment: float) -> set[str]:
         """Where a name may be dialled."""
