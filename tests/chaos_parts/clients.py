@@ -83,8 +83,8 @@ class Client:
     def name(self) -> str:
         """A name that the test's own name server is asked for."""
         kind = self.random.random()
-        word = "dead" if kind < 0.01 else "slow" if kind < 0.05 else self.random.choice(WORDS)
-        return f"{word if self.world.has_six or word != 'six' else 'one'}-{self.random.randrange(4 if kind < 0.01 else 20)}.test"
+        word = "dead" if kind < 0.004 else "slow" if kind < 0.03 else self.random.choice(WORDS)
+        return f"{word if self.world.has_six or word != 'six' else 'one'}-{self.random.randrange(4 if word == 'late' else 20)}.test"
 
     def host(self) -> str:
         if self.world.has_names and self.random.random() < 0.25:

@@ -165,7 +165,7 @@ def make(rng: random.Random, echo_port: int, local_minute: int, rewriter: Rewrit
     kind = rng.random()
     chosen = rng.sample(RULES, rng.randrange(4, 14))
     last = ["allow all"] if kind < 0.85 else ["deny all"] if kind < 0.9 else ["deny refused"] if kind < 0.95 else []
-    lookups = LookUps(rng.choice([2, 8]), rng.choice([4, 64])) if has_names and rng.random() < 0.65 else None
+    lookups = LookUps(rng.choice([4, 16]), rng.choice([4, 64])) if has_names and rng.random() < 0.65 else None
     # `!all` never holds: this rule asks for a tag and decides nothing.
     first = ["deny outside", "deny refused", "deny tagging tagged !all"]
     if lookups and rng.random() < 0.5:

@@ -112,7 +112,10 @@ class AccessJudge:
         kind = "-" if status == "000" else "text/plain"
         if line.parts["way"] != "HIER_NONE/-" or line.parts["type"] != kind or line.number("rule") >= 0:
             self.odd("it has what belongs to a request", line)
-        if line.cause not in ("", "client_gone") or line.number("up") >= 0:
+        # On a machine that is too busy a head may take so long that its link gives way.
+        patience = 10_000 if line.number("in") > 0 else 2_000
+        may_give_way = line.cause == "gave_way" and int(line.parts["elapsed"]) >= patience
+        if line.cause not in ("", "client_gone") and not may_give_way or line.number("up") >= 0:
             self.odd("it has no such cause, and no origin", line)
         # A port may be that of several connections, one after the other.
         may = [self.may_be_silent(line, status, one) for one in self.records[session.address, session.port]]

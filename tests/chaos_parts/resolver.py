@@ -37,8 +37,7 @@ HAS: dict[str, tuple[tuple[str, ...], ...]] = {
 # Why a name has none, as a reply says it: there is no such name, the server has failed, there are no records. `dead` gets no reply.
 FAILS = {"none": 3, "broken": 2, "empty": 0, "dead": -1}
 WORDS = ("one", "inner", "both", "six", "flip", "flop", "part", "late", "liar", "alias", "none", "broken", "empty")
-KEPT = 300.0  # seconds for which an answer may count, for rules that ask one after the other and then for a dial, at the most
-SLACK = 0.1
+SLACK = 0.1  # seconds between two clocks
 STATIC = {"localhost": ("127.0.0.1", "::1")}
 LIE = "127.1.0.9"
 
@@ -114,10 +113,10 @@ class Answers:
                 self.of[told["name"]].append((told["at"], frozenset(told["has"])))
 
     def before(self, name: str, moment: float) -> list[frozenset[str]]:
-        """What was said of a name up to a moment, as far as it may count then."""
+        """What was said of a name up to a moment. Where rules ask one after the other, an answer counts for minutes."""
         if name in STATIC:
             return [frozenset(STATIC[name])]
-        return [has for at, has in self.of[name] if moment - KEPT <= at <= moment + SLACK]
+        return [has for at, has in self.of[name] if at <= moment + SLACK]
 
     def shown(self, name: str, values: list[str], moment: float) -> set[str]:
         """What a list of type `dst` may answer for a name: `OK`, `ERR`, or `BH` where the look-up failed."""
@@ -130,7 +129,7 @@ class Answers:
         return may
 
     def may_fail(self, name: str, moment: float) -> bool:
-        """Whether an answer that may count has no address, or two have none in common."""
+        """Whether an answer has no address, or two have none in common."""
         said = set(self.before(name, moment))
         return any(not one & other for one in said for other in said)
 
