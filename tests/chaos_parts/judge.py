@@ -7,6 +7,7 @@ from dataclasses import dataclass
 from functools import lru_cache
 from typing import Any
 
+from .configs import ABSENT
 from .model import LOOKUP, MISS, Bucket, Configuration, in_range, is_literal, read_target
 from .oracle import Oracle, Verdict, lookup_of
 from .replies import CONTINUE, Passes, Sent, denial, elsewhere, head_at_origin, own, plan_of, reply
@@ -85,7 +86,7 @@ class Judge:
         if asked is None:
             rewriter = self.oracle.configs[1].rewriter
             assert rewriter
-            is_excused = rewriter.program.startswith("./no-such") or rewriter.queue < self.world.clients
+            is_excused = rewriter.program == ABSENT or rewriter.queue < self.world.clients
             if not is_excused and sent.end and not self.program.ended_between(verdict.taken / 1000 - 1, sent.ended):
                 self.odd(f"{name}: the rewriter was not asked, though no process of it ended and its queue had room", sent.number)
             self.counts["rewriter: not asked"] += 1

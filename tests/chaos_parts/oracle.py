@@ -9,7 +9,7 @@ from collections import Counter, defaultdict
 from dataclasses import dataclass, field
 from typing import Iterator
 
-from .model import HIT, LOOKUP, MISS, Answers, Configuration, Need, Sight, read_target
+from .model import HIT, LOOKUP, MISS, Answers, Configuration, Sight, read_target
 from .resolver import Answers as Said
 from .words import escape, percent_decoded, unescape
 
