@@ -556,6 +556,8 @@ class Client:
             self.nothing: 3,
             self.idle: 3,
         }
+        for action in (self.several, self.tunnel):
+            weights[action] *= 5 if self.world.pause else 1
         actions, chances = list(weights), list(weights.values())
         while time.time() < self.world.until:
             action = self.pooled if self.number < 3 else self.random.choices(actions, chances)[0]

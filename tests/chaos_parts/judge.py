@@ -15,6 +15,9 @@ from .resolver import HAS, STATIC
 from .rewrites import MARK, Asked, Fate, Program, fate_of
 
 
+STILL = 5.0  # seconds for which a client saw nothing on a link that may have given way: ten, but a busy client looks late
+
+
 @lru_cache(maxsize=64)
 def digest_of(bytes_: bytes) -> str:
     return hashlib.blake2b(bytes_, digest_size=16).hexdigest()
@@ -49,6 +52,7 @@ class Judge:
         self.counts: Counter[str] = Counter()
         self.sent: dict[str, tuple[Sent, str]] = {}
         self.left: set[str] = set()  # requests that an origin left before it had written its reply, since that took too long
+        self.gave_way: set[str] = set()  # requests of connections that may have been closed for other clients
         self.named = 0  # requests whose host is a name that is there, and those of them whose look-up failed
         self.given_up = 0
         self.from_origin: set[str] = set()
@@ -154,7 +158,10 @@ class Judge:
         address, port = record["address"], record["port"]
         requests = [Sent(**one) for one in record["requests"]]
         last = requests[-1].number if requests else ""
-        for what in record["wrong"]:
+        if self.may_give_way(record, requests):
+            self.gave_way |= {sent.number for sent in requests}
+            self.counts["links that may have given way"] += 1
+        for what in [] if last in self.gave_way else record["wrong"]:
             self.odd(f"{record['what']}: {what}", last)
         if record["rest"]:
             self.odd(f"{record['what']}: behind the last reply came {record['rest']!r}", last)
@@ -178,6 +185,15 @@ class Judge:
                 place = verdict.check
             self.request(record["what"], sent, verdict, address)
 
+    def may_give_way(self, record: dict[str, Any], requests: list[Sent]) -> bool:
+        """Whether a connection stood still while all workers were in use, so that it may have been closed for another client."""
+        moments = [record["began"], record["ended"]]
+        for sent in requests:
+            moments += [sent.began, sent.ended or sent.began, *(at for at, _ in sent.events)]
+        moments.sort()
+        is_still = any(after - before >= STILL for before, after in zip(moments, moments[1:]))
+        return is_still and self.oracle.was_full(record["began"], record["ended"])
+
     def request(self, what: str, sent: Sent, verdict: Verdict | None, address: str) -> None:
         name = f"{what}, {sent.method} {sent.target}"
         if sent.end == "slow":
@@ -186,7 +202,7 @@ class Judge:
         if verdict is None:
             if sent.got or sent.end == "whole":
                 self.odd(f"{name}: no verdict is noted, and the client got {sent.front!r}", sent.number)
-            elif sent.end == "cut" and not sent.followed and what not in ("at_once", "and_away"):
+            elif sent.end == "cut" and not (sent.followed or what in ("at_once", "and_away") or sent.number in self.gave_way):
                 self.odd(f"{name}: no verdict is noted, and the connection was closed", sent.number)
             return
         self.times(name, sent, verdict)
@@ -241,10 +257,11 @@ class Judge:
         if sent.got > whole or sent.digest != digest_of(wanted.bytes_[: sent.got]):
             return f"the client got {sent.got} bytes, {sent.front!r}, and not {whole}, {wanted.bytes_[:600]!r}"
         # A server that closes with bytes of the client's unread resets the connection, and what it wrote may be lost on the way.
-        may_be_cut = wanted.is_loose or wanted.closes and (sent.body is not None or sent.followed) or sent.end == "left"
-        if sent.got < whole and not may_be_cut:
+        is_unread = wanted.closes and (sent.body is not None or sent.followed)
+        has_no_end = wanted.is_loose or sent.number in self.gave_way
+        if sent.got < whole and not (is_unread or has_no_end or sent.end == "left"):
             return f"of {whole} bytes came {sent.got}, {sent.front!r} ({sent.end})"
-        if sent.end == "cut" and not wanted.closes and not wanted.is_loose:
+        if sent.end == "cut" and not wanted.closes and not has_no_end:
             return f"the connection was closed behind {sent.front!r}"
         return ""
 
@@ -313,8 +330,8 @@ class Judge:
                 name, acl, _ = key.split(" ")
                 self.counts["names that were dialled where a rule had looked"] += 1
                 values = self.oracle.configs[verdict.epoch].acls[lookup_of(acl)].values
-                if name in hosts and len(hosts) == 1 and any(in_range(value, at) for value in values):
-                    self.odd(f"the origin {name} was reached at {at}, and the rules had it that it is not in {lookup_of(acl)}", sent.number)
+                if hosts == {name} and any(in_range(value, at) for value in values):
+                    self.odd(f"{name} was reached at {at}, and the rules had it that it is not in {lookup_of(acl)}", sent.number)
 
     def pools(self) -> None:
         """What came of a bucket up to a moment is no more than it held at first, and what was restored since.

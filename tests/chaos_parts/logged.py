@@ -173,13 +173,15 @@ class AccessJudge:
         """What of a line contradicts, if this became of its request."""
         code, status = line.parts["code"].split("/")
         code = code.removesuffix("_ABORTED")
-        wanted, statuses, causes, ways, kind = self.wanted(line.parts["way"], sent, verdict, fate)
+        wanted, statuses, causes, ways, kind = self.wanted(line, sent, verdict, fate)
         got = status_of(sent)
         is_whole = sent.end == "whole" or sent.end == "cut" and "" in causes and sent.got == line.number("bytes")
         # A client that has all may have reset its link before the line was written.
         may_be_gone = not is_whole or sent.number in self.reset and float(line.parts["moment"]) > sent.ended - 0.002
         if code != wanted:
             return f"its code is {wanted}"
+        if line.cause == "gave_way" and sent.number in self.judge.gave_way:
+            return ""
         # What was to be written to a client that had left may be counted as its reply.
         if got and status != got or not got and status not in statuses | {"000"} and line.cause != "client_gone":
             return f"the client got {got or statuses}"
@@ -194,8 +196,9 @@ class AccessJudge:
             return "it has an origin's bytes, or has none"
         return self.bytes_(line, sent, verdict, fate) if line.cause != "client_gone" else ""
 
-    def wanted(self, way: str, sent: Sent, verdict: Verdict, fate: Fate) -> tuple[str, set[str], set[str], set[str], Any]:
+    def wanted(self, line: Line, sent: Sent, verdict: Verdict, fate: Fate) -> tuple[str, set[str], set[str], set[str], Any]:
         """Code, statuses, causes, ways and the type of each status, of which one has to be there."""
+        way, cause = line.parts["way"], line.cause
         nowhere, own, others = {"HIER_NONE/-"}, lambda _: "text/plain", lambda _: "-"
         if not verdict.outcome.startswith("allowed"):
             return "TCP_DENIED", {"403"}, {""}, nowhere, own
@@ -210,8 +213,8 @@ class AccessJudge:
             return "text/plain" if status == "502" else "-"
 
         if not is_found(target.host):
-            word = target.host.split("-")[0]
-            return code, {"502"}, {"lookup_failed" if word in ("broken", "dead") else "name_not_found"}, nowhere, own
+            self.judge.given_up += cause == "lookup_failed" and why_not(target.host) != cause
+            return code, {"502"}, {why_not(target.host), "lookup_failed"}, nowhere, own
         if way == "HIER_NONE/-" and self.judge.is_named(sent, verdict, fate):
             return code, {"502"}, {"lookup_failed", "name_not_found"}, nowhere, own
         record = self.judge.at_origin.get(sent.number)
@@ -260,6 +263,11 @@ class AccessJudge:
         if plan.works and not plan.is_loose and not down - len(plan.tail) <= line.number("down") <= down:
             return f"the origin wrote {down} bytes"
         return ""
+
+
+def why_not(host: str) -> str:
+    """The cause of a host that is not found."""
+    return "lookup_failed" if host.split("-")[0] in ("broken", "dead") else "name_not_found"
 
 
 def sent_is_wrong(sent: Sent) -> bool:

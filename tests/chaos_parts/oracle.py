@@ -141,6 +141,7 @@ class Oracle:
         self.began = 0
         self.changed: dict[int, float] = {}  # when an epoch began
         self.conns: dict[int, tuple[str, int]] = {}
+        self.full: list[tuple[float, float]] = []  # from when on until when all workers were in use
         self.given_up = 0  # look-ups that failed, of names that are there
         self.most_open = 0  # connections that were open at once
         self.addresses: Counter[str] = Counter()
@@ -220,6 +221,8 @@ class Oracle:
         self.must(conn not in self.conns and 1 <= conn <= self.workers and told == ["ok"], "this worker has a connection already")
         self.conns[conn] = (address, port)
         self.most_open = max(self.most_open, len(self.conns))
+        if len(self.conns) == self.workers:
+            self.full.append((self.moment, float("inf")))
         self.sessions[conn].append(Session(address, port))
         self.addresses[address] += 1
         self.opened[address, port] += 1
@@ -227,6 +230,8 @@ class Oracle:
     def on_close(self, words: list[str], told: list[str], number: int) -> None:
         conn = int(words[0])
         self.must(conn in self.conns and told == ["ok"], "no such connection is open")
+        if len(self.conns) == self.workers:
+            self.full[-1] = (self.full[-1][0], self.moment)
         self.addresses[self.conns.pop(conn)[0]] -= 1
         self.sessions[conn][-1].closed = self.moment
         check = self.of_conn.pop(conn, None)
@@ -491,6 +496,11 @@ class Oracle:
             if name in old.classes and old.classes[name].text == cls.text:
                 # It goes over: the old configuration has it no more.
                 self.kept[self.epoch, name] = self.kept.pop((self.epoch - 1, name), {})
+
+    def was_full(self, first: float, last: float) -> bool:
+        """Whether all workers were in use at some moment between these two of the driver's."""
+        at = bisect_right(self.full, (last * 1000 + 1, 0.0)) - 1
+        return at >= 0 and self.full[at][1] >= first * 1000 - 1
 
     def epochs_between(self, first: float, last: float) -> tuple[int, int]:
         """The least and the greatest epoch that could be current between these two moments of the driver's."""

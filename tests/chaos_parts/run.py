@@ -50,7 +50,8 @@ def free_port() -> int:
 
 # What a run of a minute has to have seen, so that no part is passed over in silence; the second ones where names are looked up.
 SEEN = [
-    *("requests at origins", "compared 200", "compared 403", "compared 502", "reconfigured", "kept old", "helpers killed", "helpers stopped"),
+    *("requests at origins", "compared 200", "compared 403", "compared 502"),
+    *("reconfigured", "kept old", "helpers killed", "helpers stopped"),
     *("fields of a request that did not go on", "fields of a reply that did not go on", "buckets", "buckets of tags", "quiet moments"),
     *(f"rewriter: {does}" for does in (*rewrites.ANSWERS, *rewrites.LOSSES)),
     *(f"rewriter: {name}" for name in ("plain", "heard", "not heard", "clients sent elsewhere", "other targets")),
@@ -147,7 +148,7 @@ class Round:
             raise SystemExit(f"chaos: the server says {said}; its folder is {self.folder}")
         has_six = len(self.ports[0]) == len(origin.PLACES)
         # A link that rests for ten seconds may have to give way to a client that waits.
-        pause = min(8.0, self.options.clients / 125) if self.options.clients > CROWD else 0.0
+        pause = min(5.0, self.options.clients / 200) if self.options.clients > CROWD else 0.0
         world = clients.World(
             port,
             self.http,
