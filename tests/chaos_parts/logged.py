@@ -3,6 +3,7 @@
 import re
 from collections import Counter, defaultdict
 from dataclasses import dataclass
+from pathlib import Path
 from typing import Any, Iterator
 
 from access import DROPPED, LINE
@@ -24,6 +25,11 @@ CAUSES |= {"badchunk": {"not_http", "cut_off"}}
 def url(target: str) -> str:
     """A target as a line has it."""
     return "".join(f"%{b:02X}" if b in QUOTED else chr(b) for b in target.encode("latin-1"))
+
+
+def writes_tags(program: str) -> bool:
+    """Whether a program's access log has the tags of requests."""
+    return b" tag=" in Path(program).read_bytes()
 
 
 def read_lines(paths: list[str]) -> Iterator[str]:
@@ -49,8 +55,9 @@ class Line:
 
 
 class AccessJudge:
-    def __init__(self, judge: Judge) -> None:
+    def __init__(self, judge: Judge, has_tags: bool) -> None:
         self.judge = judge
+        self.has_tags = has_tags
         self.oracle = judge.oracle
         self.counts: Counter[str] = Counter()
         self.of_check = {verdict.check: identity for identity, verdict in self.oracle.verdicts.items()}
@@ -155,6 +162,10 @@ class AccessJudge:
         rule = int(outcome[2]) if outcome[1] in ("rule", "fault") else -1
         if line.number("rule") != rule:
             return f"the outcome is {verdict.outcome}"
+        tag = None if verdict.tag is None else url(verdict.tag) or "-"
+        self.counts["lines with a tag"] += "tag" in line.parts
+        if self.has_tags and line.parts.get("tag") != tag:
+            return f"its tag is {tag}"
         code = line.parts["code"].split("/")[0]
         if code.endswith("_ABORTED") != (line.cause == "client_gone") or code.endswith("_TIMEDOUT") != (line.cause == "timed_out"):
             return "its code and its cause do not fit"

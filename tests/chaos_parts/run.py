@@ -20,7 +20,7 @@ from thousand_parts.proxies import raise_limit
 
 from . import clients, configs, origin, resolver, rewrites
 from .judge import Judge, World, lines_of
-from .logged import AccessJudge
+from .logged import AccessJudge, writes_tags
 from .model import Configuration, Rewriter
 from .oracle import Oracle, Order
 from .server import Server, signal_one, slurp, until
@@ -325,7 +325,7 @@ class Round:
         judge = Judge(oracle, World(self.http, self.nobody, self.options.clients), self.started)
         judge.hear_program("rewriter.log", self.killed)
         judge.look_who_left("origins.log")
-        logged = AccessJudge(judge)
+        logged = AccessJudge(judge, writes_tags(self.options.program))
         began: Counter[tuple[str, int]] = Counter()
         with open("clients.log") as file:
             for line in file:
@@ -469,7 +469,9 @@ def main() -> int:
         f"{counts['clients: connections']} connections, {counts['clients: requests']} requests, {counts['entries verified']} entries verified, "
         f"{wrong} contradictions"
     )
-    wanted = SEEN + (NAMES_SEEN if options.inside else []) if options.seconds >= 60 else []
+    wanted = []
+    if options.seconds >= 60:
+        wanted = SEEN + (NAMES_SEEN if options.inside else []) + (["log: lines with a tag"] if writes_tags(options.program) else [])
     missing = [name for name in wanted if not counts[name]]
     if missing:
         print(f"chaos: in all this time there was none of: {', '.join(missing)}")
