@@ -192,6 +192,8 @@ class Judge:
             moments += [sent.began, sent.ended or sent.began, *(at for at, _ in sent.events)]
         moments.sort()
         is_still = any(after - before >= STILL for before, after in zip(moments, moments[1:]))
+        # What a client reads late was written long before.
+        is_still |= record["what"] == "stalled_reader" and moments[-1] - moments[0] >= 2 * STILL
         return is_still and self.oracle.was_full(record["began"], record["ended"])
 
     def request(self, what: str, sent: Sent, verdict: Verdict | None, address: str) -> None:

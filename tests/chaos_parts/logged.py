@@ -119,9 +119,8 @@ class AccessJudge:
         kind = "-" if status == "000" else "text/plain"
         if line.parts["way"] != "HIER_NONE/-" or line.parts["type"] != kind or line.number("rule") >= 0:
             self.odd("it has what belongs to a request", line)
-        # On a machine that is too busy a head may take so long that its link gives way.
-        patience = 10_000 if line.number("in") > 0 else 2_000
-        may_give_way = line.cause == "gave_way" and int(line.parts["elapsed"]) >= patience
+        # On a machine that is too busy a client may be so late that its link gives way: after two seconds without a byte, at the soonest.
+        may_give_way = line.cause == "gave_way" and int(line.parts["elapsed"]) >= 2_000
         if line.cause not in ("", "client_gone") and not may_give_way or line.number("up") >= 0:
             self.odd("it has no such cause, and no origin", line)
         # A port may be that of several connections, one after the other.

@@ -29,6 +29,8 @@ class Says:
     target: str = ""
 
 
+JUST = 0.5  # seconds before the end of a process in which what it writes may stay unread
+
 ELSEWHERE = "http://c.example/?a=b"
 
 SAYS: dict[str, Says] = {
@@ -94,11 +96,12 @@ class Asked:
 
 @dataclass
 class Life:
-    """A process of the program: the questions that it has, by their channels, and which ones its last line in the file answers."""
+    """A process of the program: the questions that it has, by their channels, and those that it answered, with the moments."""
 
     began: float
+    last: float = 0.0  # when it told something last
     open_: dict[str, Asked] = field(default_factory=dict)
-    answered: list[Asked] = field(default_factory=list)
+    answered: list[tuple[float, Asked]] = field(default_factory=list)
     is_over: bool = False
 
 
@@ -124,15 +127,17 @@ class Program:
                     self.doubt(lives.get(pid), killed.get(pid, []))
                     lives[pid] = Life(at)
                 life = lives[pid]
-                life.answered = []
+                life.last = at
                 if "asked" in told:
                     self.ask(told, life.open_)
                 for text in told.get("wrote", []):
-                    if not life.is_over and not self.hear(text, life):
+                    if not life.is_over and not self.hear(text, at, life):
                         life.is_over = True
                         self.ends.append(at)
                 if told.get("ends"):
                     self.ends.append(at)
+                    if self.concurrency:
+                        self.forget(life, at)
         for pid, life in lives.items():
             self.doubt(life, killed.get(pid, []))
         self.ends = sorted([*self.ends, *(at for all_ in killed.values() for at in all_)])
@@ -140,7 +145,12 @@ class Program:
     def doubt(self, life: Life | None, killed: list[float]) -> None:
         """A process may have been killed between its last line in the file and what it then wrote."""
         if life and any(at >= life.began for at in killed):
-            for one in life.answered:
+            self.forget(life, life.last)
+
+    def forget(self, life: Life, moment: float) -> None:
+        """What a process wrote right before this moment may not be heard: with channels another question to it may fail first."""
+        for at, one in life.answered:
+            if at >= moment - (JUST if self.concurrency else 0.0):
                 one.is_sure = False
 
     def ask(self, told: dict[str, object], open_: dict[str, Asked]) -> None:
@@ -158,7 +168,7 @@ class Program:
         found = MARK.search(words[0])
         self.counts["rewriter: " + (found[1] if found else "plain")] += 1
 
-    def hear(self, text: str, life: Life) -> bool:
+    def hear(self, text: str, at: float, life: Life) -> bool:
         """Takes a line that a process wrote. Whether the process goes on behind it."""
         channel, _, rest = text.partition(" ") if self.concurrency else ("-", "", text)
         one = life.open_.pop(channel, None) if rest.startswith(("OK", "ERR", "BH")) and len(text) <= 65_536 else None
@@ -166,7 +176,7 @@ class Program:
         if one is None:
             return False
         one.is_heard = True
-        life.answered.append(one)
+        life.answered.append((at, one))
         return True
 
     def ended_between(self, first: float, last: float) -> bool:
