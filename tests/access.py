@@ -431,7 +431,7 @@ def no_thread(bench: Bench) -> None:
 
 def out_of_memory(bench: Bench) -> None:
     """Requests of each of which another allocation is refused, until none is. A dial that gets no memory and a reply of the proxy's
-    own for want of memory have it as their cause, a line has the status that its client got, and a line for which there was no memory is counted as dropped."""
+    own that is out of memory have it as their cause, a line has the status that its client got, and a line for which there was no memory is counted as dropped."""
     if shutil.which("cc") is None:
         print("access, out of memory: left out, since there is no cc")
         return

@@ -8,7 +8,7 @@ them. Then the tools are called over it: `aclproxyctl log`, `usage`, `status`, `
 
 Whatever is in the files, each call ends within CPU_SECONDS of a processor and WALL_SECONDS, takes no more than MEMORY bytes, has a status
 that its manual names, and writes no traceback. The status 70 says that the program answered what it is not to, so it is none of these. A
-call that is otherwise is told with its words, its round and what it wrote, and its files are kept: `--only N` makes that round alone. The
+call that ends otherwise is reported with its words, its round and what it wrote, and its files are kept: `--only N` makes that round alone. The
 run at the beginning is one of `serve` on the loopback. Python 3.11 is what it needs; zstd is used where it is installed."""
 
 import argparse

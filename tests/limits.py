@@ -2,7 +2,7 @@
 """Limits of the system around `aclproxy serve` and `aclproxyctl run`: tests/limits.py [--program PROGRAM] [NAME ..]
 
 Each function below is a limit, as docs/OPERATING.md has it under System limits; its first words say what must hold, and it checks that.
-What cannot be tried here (no root, no memory cgroup, no libfaketime) is told, and no error. The status is 0 where all else holds. Some
+What cannot be tried here (no root, no memory cgroup, no libfaketime) is reported, and is no error. The status is 0 where all else holds. Some
 of it takes a minute. Python 3.11 and its standard library are what it needs, and root for all of it.
 """
 

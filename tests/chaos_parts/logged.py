@@ -281,7 +281,7 @@ def why_not(host: str) -> str:
 
 
 def sent_is_wrong(sent: Sent) -> bool:
-    """Whether its reply is told as a contradiction already."""
+    """Whether its reply is reported as a contradiction already."""
     return sent.end == "slow"
 
 

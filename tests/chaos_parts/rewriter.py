@@ -28,7 +28,7 @@ def main() -> None:
         os.write(log, (json.dumps({"pid": os.getpid(), "at": time.time()} | what) + "\n").encode())
 
     def put(*lines: str) -> None:
-        """Writes lines by one call, which are told before."""
+        """Writes lines by one call, after it has noted them in its file."""
         tell(wrote=lines)
         os.write(1, "".join(line + "\n" for line in lines).encode())
 

@@ -63,7 +63,7 @@ class Fault:
 def all_faults(program: str, conf: Conf, first: tuple[int, int], most: int = MOST, stand_in: Callable[[Line], bytes] = taken_out) -> tuple[list[Fault], bool]:
     """The first fault and those that come to light when each faulty line is taken out, and whether there may be more.
 
-    `stand_in` gives what is judged in the place of a faulty line. The file is judged anew for each fault, so fewer are told of a long one.
+    `stand_in` gives what is judged in the place of a faulty line. The file is judged anew for each fault, so fewer are reported of a long one.
     """
     most = min(most, max(MOST, MOST_TEXT // max(1, len(conf.source))))
     faults = [Fault(first[0], first[1], None, conf)]

@@ -141,7 +141,7 @@ class Spoilt(InFolder):
                 self.assertIn("has not the words of one", ended.err)
 
     def test_compressed(self) -> None:
-        """A compressed file that is spoilt is told so, wherever in it that is."""
+        """Reports a spoilt compressed file, wherever the spoilt bytes stand."""
         packed = gzip.compress(JOURNAL.encode() * 50, mtime=0)
         half = len(packed) // 2
         changed = packed[:half] + bytes(40) + packed[half + 40 :]
@@ -192,7 +192,7 @@ class Spoilt(InFolder):
 
     @needs_program
     def test_many_faults(self) -> None:
-        """Of a file with more faults than are judged the first ones are told, and that there may be more."""
+        """Reports the first faults of a file with more than are judged, and that there may be more."""
         conf = self.file("c", [f"acl a src x{number}" for number in range(80)])
         for most, told in ((check.MOST_TEXT, 80), (1, check.MOST)):
             with mock.patch("aclproxyctl.check.MOST_TEXT", most):
